@@ -1,0 +1,4 @@
+pub mod Integers
+pub mod Enclosure
+pub mod Roundings
+pub mod Machine
