@@ -1,0 +1,162 @@
+-- What reading gives: an accepted sheet is in range in every field and holds 0 past its counts; a refused one is the sheet of zeros, with
+-- one of the first four refusals and no step. Assumes nothing.
+use Prim.Native.Nat.{ℕ, zero, suc, _-_, _≤_, _<_}
+use mathlib.Core.Path.{_≡_, refl, sym, ap}
+use mathlib.Core.Bool.{Bool, true, false}
+use mathlib.Core.List.{List, [], _∷_, _++_}
+use mathlib.Core.Option.{Option, some, none}
+use native.Mathlib.Omega.{arith}
+use lib.Seq.{take-at}
+use lib.Signed.{leZ}
+use lib.IntN.{ℤ, pos}
+use lib.Dec.{leb}
+use lib.ListN.{length, getD, take, replicate, length-append, length-replicate, List·getD-append}
+use borrow.Author.Tests.{lt-leb, eq-eqb}
+use Rattle.model.specs.Range.{bytes}
+use Rattle.model.specs.Reading.{Parsed, parsed, fault, return, _>>=_, holds, field, signedField, start, quantity, term, sheet, accepted, most-bytes, readSheet, after}
+use Rattle.model.specs.Sheet.{number, Verdict, passes, _then_, inOrder, quantityVerdict, startVerdict, termVerdict, sheetVerdict, no-quantity, no-term, no-sheet, padded, ZeroPastCounts, n-limits, steps-limits, step-limits, tail-limits, tol-limits, start-limits, radius-limits, terms-limits, to-limits, coef-limits, first-limits, second-limits, from_to_}
+use Rattle.model.specs.declared.Refusal.{Refusal}
+use Rattle.model.specs.declared.Refusal.the-variants.{Oversized, NoReading}
+use Rattle.model.specs.declared.Start.{Start}
+use Rattle.model.specs.declared.Start.the-variants.{Reading, Missing}
+use Rattle.model.specs.declared.Sheet.{Sheet}
+use Rattle.model.specs.declared.Outcome.the-variants.{Accepted, Refused}
+use Rattle.model.proofs.Verdicts.{refusal-not-passes, in-range, sheet-in-range, both-pass}
+use Rattle.model.proofs.Ranges.{below}
+use Rattle.model.proofs.Parsers.{Gives, gives, faulty, Yields, Each, yields-return, yields-then, yields-times, yields-end, yields-field, yields-signed}
+
+-- ---- the parts of a sheet
+
+after-itself : (key rest : List ℕ) → after key (key ++ rest) ≡ some rest
+unfolding after
+after-itself [] rest = refl
+after-itself (k ∷ key) rest = rw (eq-eqb k k refl, after) (after-itself key rest)
+
+-- a missing reading is refused, and never a number
+pub none-is-no-reading : (rest : List ℕ) → start (bytes "start=none\n" ++ rest) ≡ fault NoReading
+unfolding start
+none-is-no-reading rest = rw (after-itself (bytes "start=none\n") rest, start)
+
+yields-start : Yields (λ x. startVerdict x ≡ passes) start
+unfolding start startVerdict number
+yields-start = record { on = λ text. go text (after (bytes "start=none\n") text) }
+  where
+    reading : Yields (λ x. startVerdict x ≡ passes) (signedField "start" start-limits >>= λ z. return (Reading z))
+    reading = yields-then (yields-signed "start" start-limits) (λ z w. yields-return (Reading z) w)
+
+    go : (text : List ℕ) (x : Option (List ℕ)) → Gives (λ x. startVerdict x ≡ passes) (elim x [ some rest ↦ fault NoReading | none ↦ (signedField "start" start-limits >>= λ z. return (Reading z)) text ])
+    go text (some rest) = faulty NoReading (omega arith)
+    go text none = reading .on text
+
+then-passes : {a b : Verdict} → a ≡ passes → b ≡ passes → a then b ≡ passes
+unfolding _then_
+then-passes h k = rw h k
+
+yields-quantity : Yields (λ x. quantityVerdict x ≡ passes) quantity
+unfolding quantity quantityVerdict radius-limits from_to_
+yields-quantity = yields-then yields-start (λ reading s. yields-then (yields-field "radius" radius-limits refl) (λ radius w. yields-return (record { start = reading; radius = radius }) (then-passes s w)))
+
+yields-term : (n : ℕ) → Yields (λ x. termVerdict n x ≡ passes) (term n)
+unfolding term termVerdict to-limits first-limits second-limits from_to_
+yields-term n =
+    yields-then (yields-field "to" (to-limits n) refl) (λ target t.
+    yields-then (yields-signed "coef" coef-limits) (λ coef a.
+    yields-then (yields-field "first" (first-limits n) refl) (λ first f.
+    yields-then (yields-field "second" (second-limits n first) (natural-second n first)) (λ second g.
+    yields-return (record { to = target; coef = coef; first = first; second = second }) (then-passes t (then-passes a (then-passes f g)))))))
+  where
+    natural-second : (n first : ℕ) → leZ (pos 0) (second-limits n first .low) ≡ true
+    natural-second n zero = refl
+    natural-second n (suc first) = refl
+
+-- so many with the property, made up to a length
+record Filled {A : Type 0} (P : A → Type 0) (size count : ℕ) (last : A) (xs : List A) : Type 0 where
+  size-is : length xs ≡ size
+  past : xs ≡ padded size last (take count xs)
+  each : (i : ℕ) → i < count → P (getD xs i last)
+
+each-padded : {A : Type 0} {P : A → Type 0} {count : ℕ} {xs : List A} (size : ℕ) (last : A) → count ≤ size → Each P count xs → Filled P size count last (padded size last xs)
+unfolding padded
+each-padded {A} {P} {count} {xs} size last fits e =
+    record {
+      size-is = simp (length-append, length-replicate) (omega (arith, e .count));
+      past = ap (padded size last) (sym (take-at xs (replicate (size - length xs) last) count (e .count)));
+      each = λ i h. rw (List·getD-append xs (replicate (size - length xs) last) last i (omega (arith, e .count))) (e .each last i h);
+    }
+
+-- ---- a sheet
+
+all-pass : (n : ℕ) {f : ℕ → Verdict} → ((i : ℕ) → i < n → f i ≡ passes) → inOrder n f ≡ passes
+unfolding inOrder
+all-pass zero h = refl
+all-pass (suc n) h = then-passes (all-pass n (below n h)) (h n (omega arith))
+
+-- an accepted sheet: every field in its range, every start a number, its lists as long as they are declared, and 0 past its counts
+pub record Acceptable (sheet : Sheet) : Type 0 where
+  pub verdict : sheetVerdict sheet ≡ passes
+  pub quantities : length (sheet .quantity) ≡ 8
+  pub terms : length (sheet .term) ≡ 32
+  pub zeros : ZeroPastCounts sheet
+
+yields-sheet : Yields Acceptable sheet
+unfolding sheet sheetVerdict n-limits steps-limits step-limits tail-limits tol-limits terms-limits from_to_
+yields-sheet =
+    yields-then (yields-field "n" n-limits refl) (λ n a.
+    yields-then (yields-field "steps" steps-limits refl) (λ steps b.
+    yields-then (yields-field "step" step-limits refl) (λ step c.
+    yields-then (yields-field "tail" tail-limits refl) (λ tail d.
+    yields-then (yields-field "tol" tol-limits refl) (λ tol e.
+    yields-then (yields-times n yields-quantity) (λ quantities f.
+    yields-then (yields-field "terms" terms-limits refl) (λ count g.
+    yields-then (yields-times count (yields-term n)) (λ terms h.
+    let q : Filled (λ x. quantityVerdict x ≡ passes) 8 n no-quantity (padded 8 no-quantity quantities) = each-padded 8 no-quantity (in-range n a .1) f in
+    let t : Filled (λ x. termVerdict n x ≡ passes) 32 count no-term (padded 32 no-term terms) = each-padded 32 no-term (in-range count g .1) h in
+    yields-end _
+    (record {
+      verdict = then-passes a (then-passes b (then-passes c (then-passes d (then-passes e (then-passes (all-pass n (q .each)) (then-passes g (all-pass count (t .each))))))));
+      quantities = q .size-is;
+      terms = t .size-is;
+      zeros = record { quantities = q .past; terms = t .past };
+    })))))))))
+
+-- ---- the theorems
+
+gives-sheet : (text : List ℕ) (short : Bool) → Gives Acceptable (elim short [ true ↦ sheet text | false ↦ fault Oversized ])
+unfolding number
+gives-sheet text true = yields-sheet .on text
+gives-sheet text false = faulty Oversized (omega arith)
+
+pub accepted-is-acceptable : (text : List ℕ) → readSheet text .outcome ≡ Accepted → Acceptable (readSheet text .sheet)
+unfolding readSheet accepted
+accepted-is-acceptable text = go (elim (leb (length text) most-bytes) [ true ↦ sheet text | false ↦ fault Oversized ]) (gives-sheet text (leb (length text) most-bytes))
+  where
+    go : (x : Parsed Sheet) → Gives Acceptable x → accepted x .outcome ≡ Accepted → Acceptable (accepted x .sheet)
+    go (parsed x rest) (gives g) h = g
+    go (fault r) (faulty _ g) h = absurd (let z : _≡_ {A = ℕ} 0 1 = cc in omega arith)
+
+pub record RefusedSheet (r : Refusal) (step : ℕ) (sheet : Sheet) : Type 0 where
+  pub zeros : sheet ≡ no-sheet
+  pub before-steps : step ≡ 0
+  pub first-four : number r ≤ 4
+
+pub refused-is-zeros : (text : List ℕ) {r : Refusal} {step : ℕ} → readSheet text .outcome ≡ Refused r step → RefusedSheet r step (readSheet text .sheet)
+unfolding readSheet accepted
+refused-is-zeros text {r} {step} = go (elim (leb (length text) most-bytes) [ true ↦ sheet text | false ↦ fault Oversized ]) (gives-sheet text (leb (length text) most-bytes))
+  where
+    go : (x : Parsed Sheet) → Gives Acceptable x → accepted x .outcome ≡ Refused r step → RefusedSheet r step (accepted x .sheet)
+    go (parsed x rest) (gives g) h = absurd (let z : _≡_ {A = ℕ} 0 1 = cc in omega arith)
+    go (fault found) (faulty _ g) h = let same : found ≡ r = cc in record { zeros = refl; before-steps = cc; first-four = rw same at g }
+
+-- ---- refusals 1 and 4
+
+pub long-text-is-oversized : (text : List ℕ) → most-bytes < length text → readSheet text .outcome ≡ Refused Oversized 0
+unfolding readSheet accepted
+long-text-is-oversized text h = rw (lt-leb (length text) most-bytes h)
+
+pub starts-are-readings : (sheet : Sheet) → sheetVerdict sheet ≡ passes → (i : ℕ) → i < sheet .n → (z : ℤ) × (getD (sheet .quantity) i no-quantity .start ≡ Reading z)
+unfolding quantityVerdict startVerdict
+starts-are-readings sheet h i l = reading (getD (sheet .quantity) i no-quantity .start) (both-pass _ _ (sheet-in-range sheet h .quantity i l) .0)
+  where
+    reading : (x : Start) → startVerdict x ≡ passes → (z : ℤ) × (x ≡ Reading z)
+    reading (Reading z) e = (z, refl)
+    reading Missing e = absurd (refusal-not-passes e)

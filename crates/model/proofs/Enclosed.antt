@@ -1,0 +1,108 @@
+-- One step: the row encloses the exact sum of every degree no lower than its own, from every state within the balls it started from.
+-- The coefficients enclose the sum of the row's degree, and the tail covers the rest. Assumes nothing.
+use Prim.Native.Nat.{ℕ, zero, suc, _+_, _*_, _≤_, _<_}
+use mathlib.Core.Bool.{true}
+use mathlib.Core.List.{List}
+use mathlib.Core.Path.{_≡_, sym, ap, _∙_}
+use native.Mathlib.Nat.{le-trans, mul-pos, mul-le-mul-right, le-of-mul-le-mul-right}
+use native.Mathlib.Decide.{decLt}
+use native.Mathlib.Omega.{arith}
+use borrow.Author.Tests.{leb-true}
+use lib.IntN.{ℤ, pos, natAbs, _+ℤ_, _-ℤ_, _*ℤ_}
+use lib.ListN.{length, getD, List·getD-eq-default}
+use Rattle.rounding.specs.Enclosure.{Within}
+use Rattle.rounding.proofs.Integers.{ringℤ, abs-add, abs-mul, minus-plus, through}
+use Rattle.rounding.proofs.Roundings.{up-not-below}
+use Rattle.model.specs.Range.{largest}
+use Rattle.model.specs.Sheet.{scale}
+use Rattle.model.specs.Exact.{State, sumDenominator, sumNumerator, exactSum}
+use Rattle.model.specs.Step.{Ball, no-ball, reach, greatest, size, ratio, tailAt, degree, coefficientsTo, newBall, newRow, stepRow}
+use Rattle.model.specs.Passage.{slow, most-ratio}
+use Rattle.model.specs.Trust.{LiesWithin}
+use Rattle.model.specs.declared.Term.{Term}
+use Rattle.model.proofs.Bounds.{scale-le-greatest, reach-le-greatest}
+use Rattle.model.proofs.Coefficients.{sums-enclosed}
+use Rattle.model.proofs.Majorant.{WellFormed, summand-under}
+use Rattle.model.proofs.Ranges.{length-tabulate, getD-tabulate}
+use Rattle.model.proofs.Reach.{scale-positive}
+use Rattle.model.proofs.Tail.{summand, partialSum, apart, tail-covers-rest}
+use Rattle.model.proofs.Weights.{largest-le}
+
+-- u ÷ m within e of c, and v ÷ n within t of u ÷ m
+within-through : {u v : ℤ} (m n : ℕ) {c : ℤ} {e : ℕ} (t : ℕ) → 0 < m → Within u m c e → natAbs (v *ℤ pos m -ℤ u *ℤ pos n) ≤ t * (n * m) → Within v n c (e + t)
+within-through {u} {v} m n {c} {e} t positive w far = record { off = le-of-mul-le-mul-right scaled positive }
+  where
+    across : (v m n c : ℤ) → (v -ℤ c *ℤ n) *ℤ m ≡ v *ℤ m -ℤ c *ℤ m *ℤ n
+    across v m n c = simp ringℤ
+
+    spread : (u m n c : ℤ) → (u -ℤ c *ℤ m) *ℤ n ≡ u *ℤ n -ℤ c *ℤ m *ℤ n
+    spread u m n c = simp ringℤ
+
+    parted : (v -ℤ c *ℤ pos n) *ℤ pos m ≡ (v *ℤ pos m -ℤ u *ℤ pos n) +ℤ (u -ℤ c *ℤ pos m) *ℤ pos n
+    parted = across v (pos m) (pos n) c ∙ sym (ap (λ (z : ℤ). (v *ℤ pos m -ℤ u *ℤ pos n) +ℤ z) (spread u (pos m) (pos n) c) ∙ through (v *ℤ pos m) (u *ℤ pos n) (c *ℤ pos m *ℤ pos n))
+
+    scaled : natAbs (v -ℤ c *ℤ pos n) * m ≤ (e + t) * n * m
+    scaled =
+        rw (← abs-mul (v -ℤ c *ℤ pos n) (pos m), parted) (omega (arith, abs-add (v *ℤ pos m -ℤ u *ℤ pos n) ((u -ℤ c *ℤ pos m) *ℤ pos n), abs-mul (u -ℤ c *ℤ pos m) (pos n), mul-le-mul-right n (w .off)))
+
+denominator-positive : (D w K : ℕ) → 0 < D → 0 < w → 0 < sumDenominator D w K
+unfolding sumDenominator
+denominator-positive D w zero h k = h
+denominator-positive D w (suc K) h k = mul-pos (denominator-positive D w K h k) (mul-pos {m = suc K} (omega arith) (mul-pos h (mul-pos scale-positive k)))
+
+module _ (terms : List Term) (formed : WellFormed terms) (H : ℤ) (balls : List Ball) (slowly : slow terms H balls ≡ true) (state : State) (start : LiesWithin balls state) where
+  abbrev G : ℕ
+  G = greatest balls
+
+  abbrev q : ℕ
+  q = ratio terms H (length balls) G
+
+  -- s times a start is at most |value| + radius, so at most G
+  starts-under : (i : ℕ) → scale * natAbs (getD (state .numerators) i (pos 0)) ≤ G * state .denominator
+  unfolding reach
+  starts-under i = by-place (decLt i (length balls))
+    where
+      reached : (z v : ℤ) (D r : ℕ) → Within z D v r → natAbs z ≤ (natAbs v + r) * D
+      reached z v D r w = omega (arith, ap natAbs (minus-plus z (v *ℤ pos D)), abs-add (z -ℤ v *ℤ pos D) (v *ℤ pos D), abs-mul v (pos D), w .off)
+
+      by-place : Dec (i < length balls) → scale * natAbs (getD (state .numerators) i (pos 0)) ≤ G * state .denominator
+      by-place (yes lt) =
+          rw (← abs-mul (pos scale) (getD (state .numerators) i (pos 0))) (le-trans (reached _ _ (state .denominator) _ (start .near i lt)) (mul-le-mul-right (state .denominator) (reach-le-greatest balls i)))
+      by-place (no past) = rw (List·getD-eq-default (state .numerators) (pos 0) {n = i} (omega (arith, start .quantities))) (omega arith)
+
+  sizes-under : (i : ℕ) → i < length (state .numerators) → size terms G (suc i) * natAbs H ≤ q * scale
+  unfolding ratio
+  sizes-under i h =
+      le-trans (mul-le-mul-right (natAbs H) (largest-le (length balls) (λ j. size terms G (suc j)) i (rw (start .quantities) at h))) (up-not-below (largest (length balls) (λ j. size terms G (suc j)) * natAbs H) scale-positive)
+
+  below-one : q < scale
+  unfolding slow most-ratio scale
+  below-one = omega (arith, leb-true q most-ratio slowly)
+
+  tail-covers : (d K i : ℕ) → d ≤ K → natAbs (apart terms state H scale i d K) ≤ tailAt G q d * (sumDenominator (state .denominator) scale K * sumDenominator (state .denominator) scale d)
+  unfolding summand
+  tail-covers d K i h =
+      tail-covers-rest terms state H scale i G q below-one (λ k. summand-under terms state H scale G q formed (scale-le-greatest balls) starts-under sizes-under k i) d K h
+
+  -- the exact sum of degree K, by the coefficients of the orders 0 .. d and the tail
+  sum-enclosed : (d K i : ℕ) → d ≤ K → Within (pos scale *ℤ sumNumerator terms state H scale K i) (sumDenominator (state .denominator) scale K) (newBall (coefficientsTo terms H balls d) d (tailAt G q d) i .value) (newBall (coefficientsTo terms H balls d) d (tailAt G q d) i .radius)
+  unfolding newBall apart partialSum
+  sum-enclosed d K i h =
+      within-through (sumDenominator (state .denominator) scale d) (sumDenominator (state .denominator) scale K) (tailAt G q d) (denominator-positive (state .denominator) scale d (start .rational) scale-positive) (sums-enclosed terms H balls state start d i) (tail-covers d K i h)
+
+  row-encloses : (d K : ℕ) → d ≤ K → LiesWithin (newRow terms H balls d (tailAt G q d) .balls) (exactSum terms H scale K state)
+  unfolding newRow exactSum
+  row-encloses d K h =
+      record {
+        rational = denominator-positive (state .denominator) scale K (start .rational) scale-positive;
+        quantities = simp length-tabulate (start .quantities);
+        near = λ i lt. entry i (rw length-tabulate at lt);
+      }
+    where
+      entry : (i : ℕ) → i < length balls → Within (pos scale *ℤ getD (exactSum terms H scale K state .numerators) i (pos 0)) (sumDenominator (state .denominator) scale K) (getD (newRow terms H balls d (tailAt G q d) .balls) i no-ball .value) (getD (newRow terms H balls d (tailAt G q d) .balls) i no-ball .radius)
+      entry i lt =
+          rw (getD-tabulate (length balls) (newBall (coefficientsTo terms H balls d) d (tailAt G q d)) no-ball i lt, getD-tabulate (length (state .numerators)) (sumNumerator terms state H scale K) (pos 0) i (rw (start .quantities) lt)) (sum-enclosed d K i h)
+
+  pub step-encloses : (limit K : ℕ) → stepRow terms H limit balls .degree ≤ K → LiesWithin (stepRow terms H limit balls .balls) (exactSum terms H scale K state)
+  unfolding stepRow newRow
+  step-encloses limit K h = row-encloses (degree G q limit) K h

@@ -1,0 +1,114 @@
+-- What a parser yields, whatever the bytes: a result with a property, or one of the first four refusals. Laws for each way that the parsers
+-- of a sheet are put together, and for one line. Assumes nothing.
+use Prim.Native.String.{String}
+use Prim.Native.Nat.{ℕ, zero, suc, _+_, _≤_, _<_}
+use Prim.Native.Char.{code}
+use mathlib.Core.Path.{_≡_, refl, ap, _∙_}
+use mathlib.Core.Bool.{Bool, true, false, _&&_, false≢true}
+use mathlib.Core.List.{List, [], _∷_, _++_}
+use mathlib.Core.Option.{Option, some, none}
+use mathlib.Core.Logic.{⊎-elim}
+use native.Mathlib.Numerals.{add-one}
+use native.Mathlib.Nat.{eq-or-lt-of-le}
+use native.Mathlib.Omega.{arith}
+use lib.Seq.{getD-at}
+use lib.Signed.{leZ}
+use lib.IntN.{ℤ, pos, negsuc, natAbs}
+use lib.Dec.{eqb}
+use lib.ListN.{length, getD, length-append, List·getD-append}
+use Rattle.model.specs.Range.{bytes}
+use Rattle.model.specs.Reading.{Parsed, parsed, fault, Parser, return, _>>=_, times, holds, misspelt, outside, faults, Spelled, spelled, wrong, ended, line, natural, signed, field, signedField, end, sheet, after}
+use Rattle.model.specs.Sheet.{number, passes, ask, Limits, within, inRange}
+use Rattle.model.specs.declared.Refusal.{Refusal}
+use Rattle.model.specs.declared.Refusal.the-variants.{Misspelt, OutOfRange}
+use Rattle.model.proofs.Verdicts.{refusal-not-passes}
+
+-- a result has the property, or the fault is one of the first four refusals
+pub data Gives {A : Type 0} (P : A → Type 0) : Parsed A → Type 0 where
+  gives : {a : A} {rest : List ℕ} → P a → Gives P (parsed a rest)
+  faulty : (r : Refusal) → number r ≤ 4 → Gives P (fault r)
+
+pub record Yields {A : Type 0} (P : A → Type 0) (p : Parser A) : Type 0 where
+  pub on : (text : List ℕ) → Gives P (p text)
+
+pub yields-return : {A : Type 0} {P : A → Type 0} (a : A) → P a → Yields P (return a)
+unfolding return
+yields-return a h = record { on = λ text. gives h }
+
+pub yields-then : {A B : Type 0} {P : A → Type 0} {Q : B → Type 0} {p : Parser A} {f : A → Parser B} → Yields P p → ((a : A) → P a → Yields Q (f a)) → Yields Q (p >>= f)
+unfolding _>>=_
+yields-then {A} {B} {P} {Q} {p} {f} h k = record { on = λ text. go (p text) (h .on text) }
+  where
+    go : (x : Parsed A) → Gives P x → Gives Q (elim x [ parsed a rest ↦ f a rest | fault r ↦ fault r ])
+    go (parsed a rest) (gives h) = k a h .on rest
+    go (fault r) (faulty _ h) = faulty r h
+
+-- so many with the property
+pub record Each {A : Type 0} (P : A → Type 0) (n : ℕ) (xs : List A) : Type 0 where
+  pub count : length xs ≡ n
+  pub each : (default : A) (i : ℕ) → i < n → P (getD xs i default)
+
+each-one-more : {A : Type 0} {P : A → Type 0} {n : ℕ} {xs : List A} {x : A} → Each P n xs → P x → Each P (suc n) (xs ++ (x ∷ []))
+each-one-more {A} {P} {n} {xs} {x} e h = record { count = length-append xs (x ∷ []) ∙ ap (λ (m : ℕ). m + 1) (e .count) ∙ add-one n; each = at }
+  where
+    at : (default : A) (i : ℕ) → i < suc n → P (getD (xs ++ (x ∷ [])) i default)
+    at default i l = ⊎-elim last earlier (eq-or-lt-of-le {n = i} {m = n} (omega arith))
+      where
+        last : i ≡ n → P (getD (xs ++ (x ∷ [])) i default)
+        last same = rw (same, getD-at xs x [] default n (e .count)) h
+
+        earlier : i < n → P (getD (xs ++ (x ∷ [])) i default)
+        earlier l = rw (List·getD-append xs (x ∷ []) default i (omega (arith, e .count))) (e .each default i l)
+
+pub yields-times : {A : Type 0} {P : A → Type 0} (n : ℕ) {p : Parser A} → Yields P p → Yields (Each P n) (times n p)
+unfolding times
+yields-times zero h = yields-return [] (record { count = refl; each = λ default i h. absurd (omega arith) })
+yields-times (suc n) h = yields-then (yields-times n h) (λ xs e. yields-then h (λ x p. yields-return (xs ++ (x ∷ [])) (each-one-more e p)))
+
+pub yields-end : {A : Type 0} {P : A → Type 0} (a : A) → P a → Yields P (end a)
+unfolding end number
+yields-end {P = P} a h = record { on = go }
+  where
+    go : (text : List ℕ) → Gives P (end a text)
+    go [] = gives h
+    go (b ∷ text) = faulty Misspelt (omega arith)
+
+-- ---- the fields
+
+pub yields-line : (key : String) (spelling : List ℕ → Spelled) (limits : Limits) → Yields (λ z. inRange limits z ≡ passes) (λ text. faults (line key spelling limits text))
+unfolding line faults ended number inRange ask
+yields-line key spelling limits = record { on = λ text. found (after (bytes key ++ bytes "=") text) }
+  where
+    tested : (z : ℤ) (rest : List ℕ) (b : Bool) → within limits z ≡ b → Gives (λ z. inRange limits z ≡ passes) (faults (elim b [ true ↦ holds z rest | false ↦ outside ]))
+    tested z rest true h = gives {a = z} (rw h)
+    tested z rest false h = faulty OutOfRange (omega arith)
+
+    fed : (z : ℤ) (rest : List ℕ) (b : Bool) → Gives (λ z. inRange limits z ≡ passes) (faults (elim b [ true ↦ elim (within limits z) [ true ↦ holds z rest | false ↦ outside ] | false ↦ misspelt ]))
+    fed z rest true = tested z rest (within limits z) refl
+    fed z rest false = faulty Misspelt (omega arith)
+
+    read : (x : Spelled) → Gives (λ z. inRange limits z ≡ passes) (faults (ended limits x))
+    read (spelled z []) = faulty Misspelt (omega arith)
+    read (spelled z (b ∷ rest)) = fed z rest (eqb b (code "\n"))
+    read wrong = faulty Misspelt (omega arith)
+
+    found : (x : Option (List ℕ)) → Gives (λ z. inRange limits z ≡ passes) (faults (elim x [ some rest ↦ ended limits (spelling rest) | none ↦ misspelt ]))
+    found (some rest) = read (spelling rest)
+    found none = faulty Misspelt (omega arith)
+
+in-range-natural : (limits : Limits) (z : ℤ) → leZ (pos 0) (limits .low) ≡ true → inRange limits z ≡ passes → z ≡ pos (natAbs z)
+unfolding within inRange ask
+in-range-natural limits (pos n) h w = refl
+in-range-natural limits (negsuc n) h w = absurd (go (limits .low) h w)
+  where
+    go : (low : ℤ) → leZ (pos 0) low ≡ true → ask (leZ low (negsuc n) && leZ (negsuc n) (limits .high)) OutOfRange ≡ passes → ⊥
+    go (pos a) h w = refusal-not-passes w
+    go (negsuc a) h w = false≢true h
+
+pub yields-field : (key : String) (limits : Limits) → leZ (pos 0) (limits .low) ≡ true → Yields (λ n. inRange limits (pos n) ≡ passes) (field key limits)
+unfolding field
+yields-field key limits h = yields-then (yields-line key natural limits) (λ z w. yields-return (natAbs z) (rw (← in-range-natural limits z h w) w))
+
+pub yields-signed : (key : String) (limits : Limits) → Yields (λ z. inRange limits z ≡ passes) (signedField key limits)
+unfolding signedField
+yields-signed key limits = yields-line key signed limits

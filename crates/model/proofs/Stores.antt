@@ -1,0 +1,62 @@
+-- Stores one after the other: of an append, of one number more, of one entry more into an array, and of one row more into a lent buffer.
+-- Assumes nothing.
+use Prim.Native.Nat.{ℕ, suc, _+_, _≤_, _<_}
+use mathlib.Core.Path.{_≡_, refl, sym, ap, _∙_}
+use mathlib.Core.List.{List, [], _∷_, _++_, append-assoc, append-nil}
+use native.Mathlib.Nat.{add-zero, zero-add}
+use native.Mathlib.Numerals.{add-one}
+use native.Mathlib.Omega.{arith}
+use borrow.Author.Count.{below-none, below-more}
+use lib.IntN.{ℤ}
+use lib.ListN.{length, drop, getD, set, length-set}
+use lib.Seq.{sets, sets-eq, getD-set-same, getD-set-other}
+use Rattle.model.specs.Range.{tabulate}
+use Rattle.model.specs.Step.{Row}
+use Rattle.model.specs.Passage.{rowPlaces, places, written}
+use Rattle.model.proofs.Ranges.{length-tabulate}
+
+module _ {A : Type 0} where
+  pub sets-append : (l : List A) (i : ℕ) (x y : List A) → sets l i (x ++ y) ≡ sets (sets l i x) (i + length x) y
+  sets-append l i [] y = rw (add-zero i)
+  sets-append l i (a ∷ x) y = sets-append (set l i a) (suc i) x y ∙ ap (λ (k : ℕ). sets (sets (set l i a) (suc i) x) k y) places
+    where
+      places : suc i + length x ≡ i + length (a ∷ x)
+      places = omega arith
+
+  -- f 0, .., f (n - 1) are stored from place i on, and now f n
+  pub stored-one-more : {l : List A} (entry : List A) (i n : ℕ) (f : ℕ → A) → l ≡ sets entry i (tabulate n f) → set l (i + n) (f n) ≡ sets entry i (tabulate (n + 1) f)
+  unfolding tabulate
+  stored-one-more entry i n f e =
+      rw (e, add-one n, sets-append entry i (tabulate n f) (f n ∷ []), length-tabulate n f)
+
+  -- a list of so many places, of which the first i are f 0, .., f (i - 1); `d` is what is read past its end
+  pub record Begins (f : ℕ → A) (d : A) (size i : ℕ) (l : List A) : Type 0 where
+    pub places : length l ≡ size
+    pub entry : (k : ℕ) → k < i → getD l k d ≡ f k
+
+  pub begins-with-none : {f : ℕ → A} {d : A} {size : ℕ} {l : List A} → length l ≡ size → Begins f d size 0 l
+  begins-with-none e = record { places = e; entry = below-none _ }
+
+  pub begins-with-one-more : {f : ℕ → A} {d : A} {size i : ℕ} {l : List A} → Begins f d size i l → i < size → Begins f d size (i + 1) (set l i (f i))
+  begins-with-one-more {f} {d} {i = i} {l = l} b h =
+      record {
+        places = length-set l i (f i) ∙ b .places;
+        entry = below-more _ i (λ k before. getD-set-other l i k (f i) d (λ e. omega arith) ∙ b .entry k before) (getD-set-same l i (f i) d (omega (arith, b .places)));
+      }
+
+pub places-append : (rows later : List Row) → places (rows ++ later) ≡ places rows ++ places later
+unfolding places
+places-append [] later = refl
+places-append (row ∷ rows) later = rw (places-append rows later, append-assoc (rowPlaces row) (places rows) (places later))
+
+-- the buffer after so many rows is what storing their places from the front leaves
+pub written-is-sets : (rows : List Row) (buffer : List ℤ) → length (places rows) ≤ length buffer → written rows buffer ≡ sets buffer 0 (places rows)
+unfolding written
+written-is-sets rows buffer room =
+    sym (sets-eq (places rows) buffer 0 (omega arith) ∙ ap (λ (k : ℕ). places rows ++ drop k buffer) (zero-add (length (places rows))))
+
+-- one row more goes behind the places of the rows before it
+pub sets-one-row-more : (buffer : List ℤ) (rows : List Row) (row : Row) → sets buffer 0 (places (rows ++ (row ∷ []))) ≡ sets (sets buffer 0 (places rows)) (length (places rows)) (rowPlaces row)
+unfolding places
+sets-one-row-more buffer rows row =
+    rw (places-append rows (row ∷ []), append-nil (rowPlaces row), sets-append buffer 0 (places rows) (rowPlaces row), zero-add (length (places rows)))

@@ -1,0 +1,107 @@
+-- What a verdict that passes says: every question in it passes, and every number asked about lies in its range.
+-- Assumes nothing.
+use Prim.Native.Nat.{ℕ, zero, suc, _≤_, _<_}
+use mathlib.Core.Bool.{Bool, true, false, _&&_}
+use mathlib.Core.List.{List}
+use mathlib.Core.Logic.{⊎-elim}
+use mathlib.Core.Path.{_≡_, refl, sym, ap, _∙_}
+use native.Mathlib.Nat.{eq-or-lt-of-le}
+use native.Mathlib.Omega.{arith}
+use borrow.Author.Tests.{leb-true}
+use lib.Dec.{leb}
+use lib.IntN.{ℤ, pos}
+use lib.ListN.{length, getD}
+use Rattle.model.specs.Range.{every}
+use Rattle.model.specs.Sheet.{Verdict, passes, refuses, ask, _then_, inOrder, from_to_, within, n-limits, steps-limits, step-limits, tail-limits, tol-limits, terms-limits, to-limits, coef-limits, first-limits, second-limits, inRange, quantityVerdict, termVerdict, no-quantity, no-term, sheetVerdict}
+use Rattle.model.specs.declared.Refusal.{Refusal}
+use Rattle.model.specs.declared.Refusal.the-variants.{OutOfRange}
+use Rattle.model.specs.declared.Sheet.{Sheet}
+use Rattle.model.specs.declared.Term.{Term}
+
+-- ---- questions
+
+pub refusal-not-passes : {r : Refusal} → refuses r ≡ passes → ⊥
+refusal-not-passes {r} e = let z : _≡_ {A = ℕ} 0 1 = cc in omega arith
+
+pub both-pass : (a b : Verdict) → (a then b) ≡ passes → (a ≡ passes) × (b ≡ passes)
+unfolding _then_
+both-pass passes b e = (refl, e)
+both-pass (refuses r) b e = absurd (refusal-not-passes e)
+
+pub each-passes : (n : ℕ) (f : ℕ → Verdict) → inOrder n f ≡ passes → (i : ℕ) → i < n → f i ≡ passes
+unfolding inOrder
+each-passes zero f e i lt = absurd (omega arith)
+each-passes (suc n) f e i lt =
+    let both = both-pass (inOrder n f) (f n) e in
+    ⊎-elim (λ (h : i ≡ n). rw h (both .1)) (λ (h : i < n). each-passes n f (both .0) i h) (eq-or-lt-of-le {n = i} {m = n} (omega arith))
+
+pub answered-yes : (b : Bool) (r : Refusal) → ask b r ≡ passes → b ≡ true
+unfolding ask
+answered-yes true r e = refl
+answered-yes false r e = absurd (refusal-not-passes e)
+
+pub both-true : (a b : Bool) → (a && b) ≡ true → (a ≡ true) × (b ≡ true)
+both-true true b e = (refl, e)
+both-true false b e = let z : _≡_ {A = ℕ} 0 1 = cc in absurd (omega arith)
+
+pub every-holds : (n : ℕ) (f : ℕ → Bool) → every n f ≡ true → (i : ℕ) → i < n → f i ≡ true
+unfolding every
+every-holds zero f e i lt = absurd (omega arith)
+every-holds (suc n) f e i lt =
+    let both = both-true (every n f) (f n) e in
+    ⊎-elim (λ (h : i ≡ n). rw h (both .1)) (λ (h : i < n). every-holds n f (both .0) i h) (eq-or-lt-of-le {n = i} {m = n} (omega arith))
+
+-- ---- ranges
+
+pub in-range : {low high : ℕ} (n : ℕ) → inRange (from low to high) (pos n) ≡ passes → (low ≤ n) × (n ≤ high)
+unfolding inRange from_to_ within
+in-range {low} {high} n e =
+    let both = both-true (leb low n) (leb n high) (answered-yes (leb low n && leb n high) OutOfRange e) in
+    (leb-true low n (both .0), leb-true n high (both .1))
+
+-- ---- a sheet
+
+pub record TermInRange (n : ℕ) (term : Term) : Type 0 where
+  pub target : inRange (to-limits n) (pos (term .to)) ≡ passes
+  pub coefficient : inRange coef-limits (term .coef) ≡ passes
+  pub first : inRange (first-limits n) (pos (term .first)) ≡ passes
+  pub second : inRange (second-limits n (term .first)) (pos (term .second)) ≡ passes
+
+pub term-in-range : (n : ℕ) (term : Term) → termVerdict n term ≡ passes → TermInRange n term
+unfolding termVerdict
+term-in-range n term e =
+    let a = both-pass (inRange (to-limits n) (pos (term .to))) _ e in
+    let b = both-pass (inRange coef-limits (term .coef)) _ (a .1) in
+    let c = both-pass (inRange (first-limits n) (pos (term .first))) _ (b .1) in
+    record { target = a .0; coefficient = b .0; first = c .0; second = c .1 }
+
+pub record SheetInRange (sheet : Sheet) : Type 0 where
+  pub n : inRange n-limits (pos (sheet .n)) ≡ passes
+  pub steps : inRange steps-limits (pos (sheet .steps)) ≡ passes
+  pub step : inRange step-limits (sheet .step) ≡ passes
+  pub tail : inRange tail-limits (pos (sheet .tail)) ≡ passes
+  pub tol : inRange tol-limits (pos (sheet .tol)) ≡ passes
+  pub quantity : (i : ℕ) → i < sheet .n → quantityVerdict (getD (sheet .quantity) i no-quantity) ≡ passes
+  pub terms : inRange terms-limits (pos (sheet .terms)) ≡ passes
+  pub term : (j : ℕ) → j < sheet .terms → TermInRange (sheet .n) (getD (sheet .term) j no-term)
+
+pub sheet-in-range : (sheet : Sheet) → sheetVerdict sheet ≡ passes → SheetInRange sheet
+unfolding sheetVerdict
+sheet-in-range sheet e =
+    let a = both-pass (inRange n-limits (pos (sheet .n))) _ e in
+    let b = both-pass (inRange steps-limits (pos (sheet .steps))) _ (a .1) in
+    let c = both-pass (inRange step-limits (sheet .step)) _ (b .1) in
+    let d = both-pass (inRange tail-limits (pos (sheet .tail))) _ (c .1) in
+    let f = both-pass (inRange tol-limits (pos (sheet .tol))) _ (d .1) in
+    let g = both-pass (inOrder (sheet .n) (λ i. quantityVerdict (getD (sheet .quantity) i no-quantity))) _ (f .1) in
+    let h = both-pass (inRange terms-limits (pos (sheet .terms))) _ (g .1) in
+    record {
+      n = a .0;
+      steps = b .0;
+      step = c .0;
+      tail = d .0;
+      tol = f .0;
+      quantity = each-passes (sheet .n) (λ i. quantityVerdict (getD (sheet .quantity) i no-quantity)) (g .0);
+      terms = h .0;
+      term = λ j lt. term-in-range (sheet .n) (getD (sheet .term) j no-term) (each-passes (sheet .terms) (λ j. termVerdict (sheet .n) (getD (sheet .term) j no-term)) (h .1) j lt);
+    }

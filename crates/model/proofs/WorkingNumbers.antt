@@ -1,0 +1,145 @@
+-- No working number of a step leaves 64 bits: each product, each sum as far as it is summed up, each number that is rounded. A bound on a
+-- reach is one on the value and on the radius. Assumes nothing.
+use Prim.Native.Nat.{ℕ, zero, suc, _+_, _*_, _-_, _^_, _≤_, _<_}
+use mathlib.Core.List.{List}
+use mathlib.Core.Path.{_≡_, refl}
+use native.Mathlib.Nat.{one-mul, le-refl, le-trans, mul-le-mul, mul-le-mul-left, le-of-mul-le-mul-left}
+use native.Mathlib.Omega.{arith}
+use borrow.Author.Tests.{eq-eqb}
+use lib.IntN.{ℤ, pos, natAbs, _*ℤ_}
+use lib.ListN.{length, getD}
+use Rattle.rounding.proofs.Integers.{abs-add}
+use Rattle.model.specs.Range.{sum, sumℤ}
+use Rattle.model.specs.Sheet.{scale, most, no-term}
+use Rattle.model.specs.Exact.{bringsℤ}
+use Rattle.model.specs.Step.{Ball, reach, greatest, brings, ratio, Coefficients, coefficient, factor, productRadius, products, times, share, coefficientsTo, newBall}
+use Rattle.model.specs.declared.Term.{Term}
+use Rattle.model.proofs.Reach.{reach-product, reach-times, reach-sums-bounded, summand-le}
+use Rattle.model.proofs.Weights.{weighs, weightOf}
+use Rattle.model.proofs.Shares.{FactorsReach, partialProducts, products-bounded, carried-weighed}
+use Rattle.model.proofs.Bounds.{InBounds, weight-halved, scale-le-greatest, greatest-le-most, brought-bounded, coefficient-bounded, coefficient-halved}
+
+pub value-le-reach : (ball : Ball) → natAbs (ball .value) ≤ reach ball
+unfolding reach
+value-le-reach ball = omega arith
+
+pub radius-le-reach : (ball : Ball) → ball .radius ≤ reach ball
+unfolding reach
+radius-le-reach ball = omega arith
+
+-- ---- two factors
+
+module _ (table : Coefficients) (k : ℕ) {G : ℕ} (reaches : FactorsReach table k G) (small : G ≤ most) where
+  square-bounded : (a b : ℕ) → a ≤ G → b ≤ G → a * b ≤ 2 ^ 58
+  unfolding most
+  square-bounded a b h l = le-trans (mul-le-mul h l) (mul-le-mul small small)
+
+  -- |c×c'|, and what is rounded up for F, together
+  pub product-fits : (first second l : ℕ) → l ≤ k → natAbs (factor table l first .value *ℤ factor table (k - l) second .value) + productRadius (factor table l first) (factor table (k - l) second) ≤ 2 ^ 58
+  product-fits first second l h =
+      rw (reach-product (factor table l first) (factor table (k - l) second)) (square-bounded _ _ (reaches l h first) (reaches (k - l) (omega arith) second))
+
+  -- S and F, as far as they are summed up
+  pub products-fit : (first second m : ℕ) → m ≤ suc k → k < 28 → reach (partialProducts table k first second m) ≤ 28 * (2 ^ 34 + 3)
+  unfolding scale most
+  products-fit first second m h l =
+      omega (arith, products-bounded table k reaches first second m h, mul-le-mul (le-trans h l) (summand (G * G) (mul-le-mul small small)))
+    where
+      summand : (g : ℕ) → g ≤ most * most → 2 * g + 5 * scale ≤ 2 * 2 ^ 58 + 5 * scale
+      summand g h = omega (arith, h)
+
+  -- and so with fewer factors
+  pub products-reach : (first second : ℕ) → k < 28 → reach (products table k first second) ≤ 28 * (2 ^ 34 + 3)
+  unfolding most products partialProducts
+  products-reach first zero l = omega (arith, reaches k (le-refl k) first)
+  products-reach first (suc second) l = products-fit first (suc second) (suc k) (le-refl (suc k)) l
+
+brings-own : {target : ℕ} (term : Term) (x : ℕ) → term .to ≡ target → brings target term x ≡ x
+unfolding brings
+brings-own {target} term x e = rw (eq-eqb (term .to) target e)
+
+-- ---- H, A, and the sums over a target's terms
+
+module _ {terms : List Term} {H : ℤ} {balls : List Ball} (bounds : InBounds terms H balls) (table : Coefficients) (k : ℕ) (reaches : FactorsReach table k (greatest balls)) (order : k < 28) where
+  -- |H×S| and |H|×F
+  pub step-product-fits : (first second : ℕ) → natAbs H * reach (products table k first second) < 2 ^ 63
+  unfolding scale
+  step-product-fits first second =
+      omega (arith, mul-le-mul (bounds .sheet .step) (products-reach table k reaches (greatest-le-most bounds) first second order))
+
+  -- Q and f
+  pub carried-reach : (first second : ℕ) → reach (times H (products table k first second)) < 2 ^ 40
+  unfolding scale
+  carried-reach first second =
+      omega (arith, reach-times H (products table k first second), mul-le-mul (bounds .sheet .step) (products-reach table k reaches (greatest-le-most bounds) first second order))
+
+  -- a term weighs no more than all terms of its target
+  term-halved : (j : ℕ) → j < length terms → 2 * (natAbs H * weighs (greatest balls) (getD terms j no-term)) ≤ greatest balls * (scale * scale * scale)
+  unfolding weightOf
+  term-halved j h = go (getD terms j no-term .to) refl (bounds .sheet .to-low j h) (bounds .sheet .to-high j h)
+    where
+      go : (to : ℕ) → getD terms j no-term .to ≡ to → 1 ≤ to → to ≤ length balls → 2 * (natAbs H * weighs (greatest balls) (getD terms j no-term)) ≤ greatest balls * (scale * scale * scale)
+      go zero e low high = absurd (omega arith)
+      go (suc i) e low high =
+          let own : weighs (greatest balls) (getD terms j no-term) ≤ weightOf terms (greatest balls) (suc i) =
+          rw (brings-own (getD terms j no-term) (weighs (greatest balls) (getD terms j no-term)) e) at (summand-le (λ l. brings (suc i) (getD terms l no-term) (weighs (greatest balls) (getD terms l no-term))) (length terms) h) in
+          le-trans (mul-le-mul-left 2 (mul-le-mul-left (natAbs H) own)) (weight-halved bounds i high)
+
+  -- |A×Q| and |A|×f, by the ratio and not by the range of A
+  pub term-product-fits : (j : ℕ) → j < length terms → natAbs (getD terms j no-term .coef) * reach (times H (products table k (getD terms j no-term .first) (getD terms j no-term .second))) < 2 ^ 57
+  unfolding scale most
+  term-product-fits j h =
+      combine (natAbs (getD terms j no-term .coef)) _ _ (greatest balls) (carried-weighed table k reaches H (scale-le-greatest balls) (getD terms j no-term) (bounds .sheet .formed j)) (term-halved j h) (scale-le-greatest balls) (greatest-le-most bounds) (le-trans (summand-le (λ l. natAbs (getD terms l no-term .coef)) (length terms) h) (bounds .sheet .total))
+    where
+      combine : (a c w g : ℕ) → 2 * (scale * scale) * (g * (a * c)) ≤ suc k * ((2 * g + 5) * w) + 5 * (scale * scale) * (g * a) → 2 * w ≤ g * (scale * scale * scale) → scale ≤ g → g ≤ most → a ≤ 32 * 268435456 → a * c < 2 ^ 57
+      combine a c w g e f low high total =
+          let scaled : 4 * (a * c) ≤ suc k * (2 * g + 5) * scale + 10 * a =
+          le-of-mul-le-mul-left {k = g * (scale * scale)} (omega (arith, e, mul-le-mul-left (suc k * (2 * g + 5)) f)) (omega (arith, low)) in
+          let top : 2 * g + 5 ≤ 2 * most + 5 = omega (arith, high) in
+          omega (arith, scaled, mul-le-mul {n₁ = suc k} {m₁ = 2 * g + 5} order top, total)
+
+  -- v and g
+  pub share-reach : (j : ℕ) → j < length terms → reach (share H table k (getD terms j no-term)) < 2 ^ 34
+  unfolding scale share
+  share-reach j h = omega (arith, term-product-fits j h, reach-times (getD terms j no-term .coef) (times H (products table k (getD terms j no-term .first) (getD terms j no-term .second))))
+
+  -- the sums of v and of g, as far as they are summed up
+  pub brought-fits : (i m : ℕ) → i < length balls → m ≤ length terms →
+      natAbs (sumℤ m (λ j. bringsℤ (suc i) (getD terms j no-term) (share H table k (getD terms j no-term) .value))) + sum m (λ j. brings (suc i) (getD terms j no-term) (share H table k (getD terms j no-term) .radius)) < 2 ^ 34
+  unfolding most
+  brought-fits i m h l =
+      let top : 2 * greatest balls + 5 ≤ 2 * most + 5 = omega (arith, greatest-le-most bounds) in
+      omega (arith, brought-bounded bounds table k reaches i m h l, mul-le-mul {n₁ = suc k} {m₁ = 2 * greatest balls + 5} order top)
+
+-- ---- the new row
+
+-- the sums of c and of e of a table whose coefficients reach G at most, as far as they are summed up
+pub order-sums-bounded : (table : Coefficients) (i m : ℕ) {G : ℕ} → ((k : ℕ) → k < m → reach (coefficient table k i) ≤ G) →
+    natAbs (sumℤ m (λ k. coefficient table k i .value)) + sum m (λ k. coefficient table k i .radius) ≤ m * G
+unfolding reach
+order-sums-bounded table i m {G} h =
+    rw one-mul at (reach-sums-bounded m (λ k. coefficient table k i .value) (λ k. coefficient table k i .radius) 1 G (λ k l. rw one-mul (h k l)))
+
+-- the sums of c and of e, as far as they are summed up: at most ten digits
+module _ {terms : List Term} {H : ℤ} {balls : List Ball} (bounds : InBounds terms H balls) (d i : ℕ) where
+  row-sums-bounded : (m : ℕ) → m ≤ suc d →
+      2 * (natAbs (sumℤ m (λ k. coefficient (coefficientsTo terms H balls d) k i .value)) + sum m (λ k. coefficient (coefficientsTo terms H balls d) k i .radius)) ≤ m * (greatest balls + 2727) + greatest balls
+  unfolding reach sum sumℤ
+  row-sums-bounded zero h = omega arith
+  row-sums-bounded (suc zero) h =
+      omega (arith, coefficient-bounded bounds d 0 (omega arith) i, abs-add (pos 0) (coefficient (coefficientsTo terms H balls d) 0 i .value))
+  row-sums-bounded (suc (suc m)) h =
+      omega (arith, row-sums-bounded (suc m) (omega arith), coefficient-halved bounds d m (omega arith) i, abs-add (sumℤ (suc m) (λ k. coefficient (coefficientsTo terms H balls d) k i .value)) (coefficient (coefficientsTo terms H balls d) (suc m) i .value))
+
+  pub row-sums-fit : (m : ℕ) → m ≤ suc d → d ≤ 28 →
+      natAbs (sumℤ m (λ k. coefficient (coefficientsTo terms H balls d) k i .value)) + sum m (λ k. coefficient (coefficientsTo terms H balls d) k i .radius) < 2 ^ 33
+  unfolding most
+  row-sums-fit m h l =
+      let top : greatest balls + 2727 ≤ most + 2727 = omega (arith, greatest-le-most bounds) in
+      let count : m ≤ 29 = omega arith in
+      omega (arith, row-sums-bounded m h, greatest-le-most bounds, mul-le-mul count top)
+
+  -- the new row's value and radius
+  pub new-ball-fits : (tail : ℕ) → d ≤ 28 → reach (newBall (coefficientsTo terms H balls d) d tail i) < 2 ^ 33 + tail
+  unfolding reach newBall
+  new-ball-fits tail l = omega (arith, row-sums-fit (suc d) (le-refl (suc d)) l)

@@ -1,0 +1,54 @@
+-- Document 01, 'A sheet and its answer': the answer's text, from bytes to bytes.
+use Prim.Native.Nat.{ℕ, zero, suc, _+_, _/_, _%_}
+use Prim.Native.Char.{code}
+use Prim.Native.String.{String}
+use mathlib.Core.Bool.{Bool, true, false}
+use mathlib.Core.List.{List, [], _∷_, _++_}
+use lib.Dec.{ltb}
+use lib.IntN.{ℤ, pos, negsuc}
+use Rattle.model.specs.Range.{bytes}
+use Rattle.model.specs.Sheet.{result, refusedStep}
+use Rattle.model.specs.Reading.{readSheet}
+use Rattle.model.specs.Step.{Ball, Row}
+use Rattle.model.specs.Passage.{Run, run}
+use Rattle.model.specs.declared.Outcome.{Outcome}
+use Rattle.model.specs.declared.Outcome.the-variants.{Accepted, Refused}
+
+-- a digit's byte
+unfoldable pub digit : ℕ → ℕ
+digit n = code "0" + n
+
+-- n in decimal; the first number is fuel, and n itself is always enough
+unfoldable pub decimalBy : ℕ → ℕ → List ℕ
+decimalBy zero n = digit n ∷ []
+decimalBy (suc fuel) n =
+    elim (ltb n 10) [ true ↦ digit n ∷ [] | false ↦ decimalBy fuel (n / 10) ++ (digit (n % 10) ∷ []) ]
+
+unfoldable pub decimal : ℤ → List ℕ
+decimal (pos n) = decimalBy n n
+decimal (negsuc n) = code "-" ∷ decimalBy (suc n) (suc n)
+
+unfoldable pub printed : String → ℤ → List ℕ
+printed key z = bytes key ++ bytes "=" ++ decimal z ++ bytes "\n"
+
+unfoldable pub ballsText : List Ball → List ℕ
+ballsText [] = []
+ballsText (ball ∷ balls) = printed "value" (ball .value) ++ printed "radius" (pos (ball .radius)) ++ ballsText balls
+
+-- the rows, the first of them with this number
+unfoldable pub rowsText : ℕ → List Row → List ℕ
+rowsText number [] = []
+rowsText number (row ∷ rows) =
+    printed "row" (pos number) ++ printed "degree" (pos (row .degree)) ++ ballsText (row .balls) ++ rowsText (suc number) rows
+
+unfoldable pub outcomeText : Outcome → List ℕ
+outcomeText outcome = printed "result" (pos (result outcome)) ++ printed "at" (pos (refusedStep outcome))
+
+unfoldable pub runText : Run → List ℕ
+runText run = rowsText 1 (run .rows) ++ outcomeText (run .outcome)
+
+-- what the planner prints for a sheet
+unfoldable pub answer : List ℕ → List ℕ
+answer text =
+    let read = readSheet text in
+    elim (read .outcome) [ Accepted ↦ runText (run (read .sheet)) | Refused r step ↦ outcomeText (Refused r step) ]

@@ -1,0 +1,9 @@
+pub mod Range
+pub mod Sheet
+pub mod Reading
+pub mod Exact
+pub mod Step
+pub mod Passage
+pub mod Trust
+pub mod Answer
+pub mod Cases
