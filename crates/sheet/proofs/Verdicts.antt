@@ -1,0 +1,104 @@
+-- Questions one after the other, as outcomes: what an outcome says of the verdict that it stands for.
+use Prim.Native.Nat.{ℕ, zero, suc, _+_, _-_, _<_, _≤_}
+use mathlib.Core.Path.{_≡_, refl, sym, ap, _∙_}
+use mathlib.Core.Bool.{Bool, true, false, not, _&&_}
+use native.Mathlib.Omega.{arith}
+use native.Mathlib.Numerals.{add-one}
+use borrow.Author.Tests.{leb-true, ltb-true, ltb-false, not-true, not-false}
+use lib.Dec.{leb, ltb}
+use lib.IntN.{ℤ, pos}
+use Rattle.model.specs.Sheet.{Verdict, passes, refuses, ask, _then_, inOrder, inRange, Limits, within, from_to_, n-limits, terms-limits, sheetVerdict}
+use Rattle.model.specs.declared.Sheet.{Sheet}
+use Rattle.model.specs.declared.Refusal.{Refusal}
+use Rattle.model.specs.declared.Refusal.the-variants.{OutOfRange}
+use Rattle.model.specs.declared.Outcome.{Outcome}
+use Rattle.model.specs.declared.Outcome.the-variants.{Accepted, Refused}
+use Rattle.sheet.specs.Ranges.{outcome, headVerdict, quantitiesVerdict, termsVerdict}
+
+pub passes-as : (v : Verdict) {o : Outcome} → o ≡ outcome v → o ≡ Accepted → v ≡ passes
+unfolding outcome
+passes-as passes stands e = refl
+passes-as (refuses r) stands e = absurd (let z : _≡_ {A = ℕ} 0 1 = cc in omega arith)
+
+pub refuses-as : (v : Verdict) {o : Outcome} {r : Refusal} {step : ℕ} → o ≡ outcome v → o ≡ Refused r step → v ≡ refuses r
+unfolding outcome
+refuses-as passes stands e = absurd (let z : _≡_ {A = ℕ} 0 1 = cc in omega arith)
+refuses-as (refuses r) stands e = cc
+
+-- the later question is not asked where the earlier refuses
+module _ (earlier later : Verdict) {o : Outcome} (stands : o ≡ outcome earlier) where
+  pub refused-first : {r : Refusal} {step : ℕ} → o ≡ Refused r step → o ≡ outcome (earlier then later)
+  unfolding _then_
+  refused-first e = stands ∙ (rw (refuses-as earlier stands e))
+
+  pub passed-first : o ≡ Accepted → outcome (earlier then later) ≡ outcome later
+  unfolding _then_
+  passed-first e = rw (passes-as earlier stands e)
+
+-- the answer to a range question, from the call that was asked it: `if !answer` was taken, or left
+module _ {held limits : Limits} (z : ℤ) {answer : Bool} (asked : answer ≡ within held z) (same : held ≡ limits) where
+  pub answer-is : within limits z ≡ answer
+  answer-is = sym (ap (λ (l : Limits). within l z) same) ∙ sym asked
+
+  pub answered-no : not answer ≡ true → within limits z ≡ false
+  answered-no taken = answer-is ∙ not-true answer taken
+
+  pub answered-yes : not answer ≡ false → within limits z ≡ true
+  answered-yes left = answer-is ∙ not-false answer left
+
+-- ---- f 0, .., f (n - 1), one after the other
+
+module _ (f : ℕ → Verdict) where
+  pub one-more : {i : ℕ} → inOrder i f ≡ passes → inOrder (i + 1) f ≡ f i
+  unfolding inOrder _then_
+  one-more {i} h = rw (add-one i, h)
+
+  pub first-refusal : (n : ℕ) {i : ℕ} {r : Refusal} → i < n → inOrder i f ≡ passes → f i ≡ refuses r → inOrder n f ≡ refuses r
+  unfolding inOrder _then_
+  first-refusal zero h passed e = absurd (omega arith)
+  first-refusal (suc n) {i} {r} h passed e = go (ltb i n) refl (λ below. first-refusal n below passed e)
+    where
+      go : (b : Bool) → ltb i n ≡ b → (i < n → inOrder n f ≡ refuses r) → inOrder (suc n) f ≡ refuses r
+      go true below earlier = rw (earlier (ltb-true i n below))
+      go false last earlier = rw (at-last, passed) e
+        where
+          at-last : n ≡ i
+          at-last = omega (arith, ltb-false i n last)
+
+-- ---- the parts of a sheet's verdict
+
+then-assoc : (a b later : Verdict) → (a then b) then later ≡ a then (b then later)
+unfolding _then_
+then-assoc passes b later = refl
+then-assoc (refuses r) b later = refl
+
+pub in-parts : (sheet : Sheet) → sheetVerdict sheet ≡ headVerdict sheet then quantitiesVerdict (sheet .n) (sheet .quantity) then inRange terms-limits (pos (sheet .terms)) then termsVerdict (sheet .n) (sheet .terms) (sheet .term)
+unfolding sheetVerdict headVerdict quantitiesVerdict termsVerdict
+in-parts sheet = simp then-assoc
+
+-- ---- what a number in its range is
+
+earlier-passes : (a later : Verdict) → passes ≡ (a then later) → a ≡ passes
+unfolding _then_
+earlier-passes passes later e = refl
+earlier-passes (refuses r) later e = absurd (let z : _≡_ {A = ℕ} 0 1 = cc in omega arith)
+
+pub at-most : (low high m : ℕ) → within (from low to high) (pos m) ≡ true → m ≤ high
+unfolding within from_to_
+at-most low high m h = go (leb low m) h
+  where
+    go : (b : Bool) → (b && leb m high) ≡ true → m ≤ high
+    go true e = leb-true m high e
+    go false e = absurd (let z : _≡_ {A = ℕ} 0 1 = cc in omega arith)
+
+within-of : (limits : Limits) (z : ℤ) → inRange limits z ≡ passes → within limits z ≡ true
+unfolding inRange ask
+within-of limits z e = go (within limits z) e
+  where
+    go : (b : Bool) → ask b OutOfRange ≡ passes → b ≡ true
+    go true e = refl
+    go false e = absurd (let z : _≡_ {A = ℕ} 0 1 = cc in omega arith)
+
+pub head-passes : (sheet : Sheet) → passes ≡ headVerdict sheet → sheet .n ≤ 8
+unfolding headVerdict n-limits
+head-passes sheet e = at-most 1 8 (sheet .n) (within-of (from 1 to 8) (pos (sheet .n)) (earlier-passes (inRange (from 1 to 8) (pos (sheet .n))) _ e))

@@ -1,0 +1,20 @@
+-- `sheet::limits::to_limits` meets its contract.
+-- Assumes nothing.
+use native.Mathlib.Omega.{arith}
+use mir.Syntax.{w64}
+use mir.Facts.{toZ-pos}
+use Rattle.model.specs.Sheet.{to-limits, from_to_}
+use Rattle.sheet.specs.Ranges.{limitsOf}
+use borrow.Author.Needs.{needs}
+use Rattle.sheet.proofs.limits.to_limits.Statement.{statement}
+use Rattle.sheet.proofs.limits.to_limits.Tie as tie
+
+returns : tie.Need-returns
+unfolding limitsOf to-limits from_to_
+returns c = rw (toZ-pos w64 {n = c .args .n} (omega (arith, c .pre)))
+
+cast-t2 : tie.Need-cast-t2
+cast-t2 c = search needs
+
+pub to-limits-spec : {M : Type 1} → statement M
+to-limits-spec = tie.close (tie.spec cast-t2 returns)

@@ -1,0 +1,4 @@
+pub mod Ranges
+pub mod Places
+pub mod Fields
+pub mod Sheets

@@ -1,0 +1,325 @@
+// Document 01, questions 1 and 2: from the bytes of a sheet to the sheet, or to its first refusal and the sheet of zeros.
+ghost use mathlib.Core.Path.{_≡_};
+ghost use Prim.Native.Nat.{_≤_};
+ghost use Rattle.model.specs.Reading as model;
+ghost use Rattle.model.specs.Sheet.{no-quantity, no-term};
+ghost use Rattle.sheet.specs.Places.{rest};
+ghost use Rattle.sheet.specs.Sheets.{quantityRead, termRead, headRead, head, HeadInRange, body, quantitiesRead, quantities, termsRead, terms};
+use crate::cursor::Cursor;
+use crate::fields::NaturalLine;
+use crate::fields::WholeLine;
+use crate::limits;
+use model::Outcome;
+use model::Quantity;
+use model::Reading;
+use model::Refusal;
+use model::Sheet;
+use model::Start;
+use model::Term;
+
+// The lines of one quantity.
+pub enum QuantityLines {
+    Hold(Quantity, Cursor),
+    Fault(Refusal),
+}
+
+// The lines of one term.
+pub enum TermLines {
+    Hold(Term, Cursor),
+    Fault(Refusal),
+}
+
+// The numbers above the quantities.
+pub struct Head {
+    pub n: usize,
+    pub steps: usize,
+    pub step: u64,
+    pub tail: u64,
+    pub tol: u64,
+}
+
+pub enum HeadLines {
+    Hold(Head, Cursor),
+    Fault(Refusal),
+}
+
+// The quantities read so far, with 0 past them, and the first refusal.
+pub struct Quantities {
+    pub outcome: Outcome,
+    pub list: [Quantity; 8],
+    pub next: Cursor,
+}
+
+// The terms read so far, with 0 past them, and the first refusal.
+pub struct Terms {
+    pub outcome: Outcome,
+    pub list: [Term; 32],
+    pub next: Cursor,
+}
+
+impl Cursor {
+    fn quantity(self, text: &[u8]) -> QuantityLines
+        ensures { λ r. ⌜ quantityRead (now (text .entry)) r ≡ model.quantity (rest (now (text .entry)) self) ⌝ }
+    {
+        let start = match self.start_field(text) {
+            WholeLine::Holds(field) => field,
+            WholeLine::Fault(refusal) => return QuantityLines::Fault(refusal),
+        };
+        let next = start.next;
+        let radius = match next.natural_field(text, b"radius=", limits::RADIUS) {
+            NaturalLine::Holds(field) => field,
+            NaturalLine::Fault(refusal) => return QuantityLines::Fault(refusal),
+        };
+        let end = radius.next;
+        QuantityLines::Hold(
+            Quantity {
+                start: Start::Reading(start.value),
+                radius: radius.value,
+            },
+            end,
+        )
+    }
+
+    fn term(self, text: &[u8], n: usize) -> TermLines
+        requires { ⌜ n ≤ 8 ⌝ }
+        ensures { λ r. ⌜ termRead (now (text .entry)) r ≡ model.term n (rest (now (text .entry)) self) ⌝ }
+    {
+        let to = match self.natural_field(text, b"to=", limits::to_limits(n)) {
+            NaturalLine::Holds(field) => field,
+            NaturalLine::Fault(refusal) => return TermLines::Fault(refusal),
+        };
+        let after_to = to.next;
+        let coef = match after_to.whole_field(text, b"coef=", true, limits::COEF) {
+            WholeLine::Holds(field) => field,
+            WholeLine::Fault(refusal) => return TermLines::Fault(refusal),
+        };
+        let after_coef = coef.next;
+        let first = match after_coef.natural_field(text, b"first=", limits::first_limits(n)) {
+            NaturalLine::Holds(field) => field,
+            NaturalLine::Fault(refusal) => return TermLines::Fault(refusal),
+        };
+        let after_first = first.next;
+        let factor = first.value as usize;
+        let second = match after_first.natural_field(
+            text,
+            b"second=",
+            limits::second_limits(n, factor),
+        ) {
+            NaturalLine::Holds(field) => field,
+            NaturalLine::Fault(refusal) => return TermLines::Fault(refusal),
+        };
+        let end = second.next;
+        TermLines::Hold(
+            Term {
+                to: to.value as usize,
+                coef: coef.value,
+                first: factor,
+                second: second.value as usize,
+            },
+            end,
+        )
+    }
+
+    fn head(self, text: &[u8]) -> HeadLines
+        ensures { λ r. ⌜ headRead (now (text .entry)) r ≡ head (rest (now (text .entry)) self) ⌝ }
+    {
+        let n = match self.natural_field(text, b"n=", limits::N) {
+            NaturalLine::Holds(field) => field,
+            NaturalLine::Fault(refusal) => return HeadLines::Fault(refusal),
+        };
+        let after_n = n.next;
+        let steps = match after_n.natural_field(text, b"steps=", limits::STEPS) {
+            NaturalLine::Holds(field) => field,
+            NaturalLine::Fault(refusal) => return HeadLines::Fault(refusal),
+        };
+        let after_steps = steps.next;
+        let step = match after_steps.natural_field(text, b"step=", limits::STEP) {
+            NaturalLine::Holds(field) => field,
+            NaturalLine::Fault(refusal) => return HeadLines::Fault(refusal),
+        };
+        let after_step = step.next;
+        let tail = match after_step.natural_field(text, b"tail=", limits::TAIL) {
+            NaturalLine::Holds(field) => field,
+            NaturalLine::Fault(refusal) => return HeadLines::Fault(refusal),
+        };
+        let after_tail = tail.next;
+        let tol = match after_tail.natural_field(text, b"tol=", limits::TOL) {
+            NaturalLine::Holds(field) => field,
+            NaturalLine::Fault(refusal) => return HeadLines::Fault(refusal),
+        };
+        let end = tol.next;
+        HeadLines::Hold(
+            Head {
+                n: n.value as usize,
+                steps: steps.value as usize,
+                step: step.value,
+                tail: tail.value,
+                tol: tol.value,
+            },
+            end,
+        )
+    }
+
+    fn quantities(self, text: &[u8], n: usize) -> Quantities
+        requires { ⌜ n ≤ 8 ⌝ }
+        ensures { λ r. ⌜ quantitiesRead (now (text .entry)) r ≡ quantities n (rest (now (text .entry)) self) ⌝ }
+    {
+        let none = no_quantity();
+        let mut list = [none; 8];
+        let mut cursor = self;
+        for i in 0..n {
+            match cursor.quantity(text) {
+                QuantityLines::Hold(quantity, next) => {
+                    list[i] = quantity;
+                    cursor = next;
+                }
+                QuantityLines::Fault(refusal) => {
+                    return Quantities {
+                        outcome: Outcome::Refused(refusal, 0),
+                        list: list,
+                        next: cursor,
+                    };
+                }
+            }
+        }
+        Quantities {
+            outcome: Outcome::Accepted,
+            list: list,
+            next: cursor,
+        }
+    }
+
+    fn terms(self, text: &[u8], n: usize, count: usize) -> Terms
+        requires { ⌜ n ≤ 8 ⌝ }
+        requires { ⌜ count ≤ 32 ⌝ }
+        ensures { λ r. ⌜ termsRead (now (text .entry)) r ≡ terms n count (rest (now (text .entry)) self) ⌝ }
+    {
+        let none = no_term();
+        let mut list = [none; 32];
+        let mut cursor = self;
+        for j in 0..count {
+            match cursor.term(text, n) {
+                TermLines::Hold(term, next) => {
+                    list[j] = term;
+                    cursor = next;
+                }
+                TermLines::Fault(refusal) => {
+                    return Terms {
+                        outcome: Outcome::Refused(refusal, 0),
+                        list: list,
+                        next: cursor,
+                    };
+                }
+            }
+        }
+        Terms {
+            outcome: Outcome::Accepted,
+            list: list,
+            next: cursor,
+        }
+    }
+}
+
+fn no_quantity() -> Quantity
+    ensures { λ r. ⌜ r ≡ no-quantity ⌝ }
+{
+    Quantity {
+        start: Start::Reading(0),
+        radius: 0,
+    }
+}
+
+fn no_term() -> Term
+    ensures { λ r. ⌜ r ≡ no-term ⌝ }
+{
+    Term {
+        to: 0,
+        coef: 0,
+        first: 0,
+        second: 0,
+    }
+}
+
+// A refused sheet: its refusal, and the sheet of zeros.
+fn refused(refusal: Refusal) -> Reading
+    ensures { λ r. ⌜ r ≡ model.accepted (model.Parsed.fault refusal) ⌝ }
+{
+    let no_quantity = no_quantity();
+    let no_term = no_term();
+    let quantity = [no_quantity; 8];
+    let term = [no_term; 32];
+    let sheet = Sheet {
+        n: 0,
+        steps: 0,
+        step: 0,
+        tail: 0,
+        tol: 0,
+        quantity: quantity,
+        terms: 0,
+        term: term,
+    };
+    Reading {
+        outcome: Outcome::Refused(refusal, 0),
+        sheet: sheet,
+    }
+}
+
+// The sheet whose lines start here: its quantities and terms follow the numbers above them, and nothing follows the terms.
+fn after_head(text: &[u8], head: Head, from: Cursor) -> Reading
+    requires { ⌜ HeadInRange head ⌝ }
+    ensures { λ r. ⌜ r ≡ model.accepted (body head (rest (now (text .entry)) from)) ⌝ }
+{
+    let n = head.n;
+    let quantities = from.quantities(text, n);
+    let quantities_outcome = quantities.outcome;
+    if let Outcome::Refused(refusal, _) = quantities_outcome {
+        return refused(refusal);
+    }
+    let after_quantities = quantities.next;
+    let count = match after_quantities.natural_field(text, b"terms=", limits::TERMS) {
+        NaturalLine::Holds(field) => field,
+        NaturalLine::Fault(refusal) => return refused(refusal),
+    };
+    let after_count = count.next;
+    let terms = after_count.terms(text, n, count.value as usize);
+    let terms_outcome = terms.outcome;
+    if let Outcome::Refused(refusal, _) = terms_outcome {
+        return refused(refusal);
+    }
+    let end = terms.next;
+    if !end.at_end(text) {
+        return refused(Refusal::Misspelt);
+    }
+    let quantity = quantities.list;
+    let term = terms.list;
+    let sheet = Sheet {
+        n: n,
+        steps: head.steps,
+        step: head.step as i64,
+        tail: head.tail,
+        tol: head.tol,
+        quantity: quantity,
+        terms: count.value as usize,
+        term: term,
+    };
+    Reading {
+        outcome: Outcome::Accepted,
+        sheet: sheet,
+    }
+}
+
+pub const MOST_BYTES: usize = 4096;
+
+// The reading of a sheet: question 1, then its lines from the top.
+pub fn read(text: &[u8]) -> Reading
+    ensures { λ r. ⌜ r ≡ model.readSheet (now (text .entry)) ⌝ }
+{
+    if MOST_BYTES < text.len() {
+        return refused(Refusal::Oversized);
+    }
+    let top = Cursor { at: 0 };
+    match top.head(text) {
+        HeadLines::Hold(head, next) => after_head(text, head, next),
+        HeadLines::Fault(refusal) => refused(refusal),
+    }
+}
