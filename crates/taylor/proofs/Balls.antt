@@ -1,0 +1,35 @@
+-- G and the largest size, as a loop over the arrays forms them. Assumes nothing.
+use Prim.Native.Nat.{ℕ, zero, suc, _+_, _*_, max, _≤_, _<_}
+use mathlib.Core.List.{List}
+use mathlib.Core.Path.{_≡_, refl, sym, ap, ap₂, _∙_}
+use native.Mathlib.Omega.{arith}
+use lib.IntN.{ℤ, pos, natAbs}
+use lib.ListN.{length, getD}
+use Rattle.model.specs.Range.{largest, tabulate}
+use Rattle.model.specs.Sheet.{scale}
+use Rattle.model.specs.Step.{no-ball, reach, greatest}
+use Rattle.model.specs.declared.Ball.{Ball}
+use Rattle.model.proofs.Ranges.{below, length-tabulate, getD-tabulate}
+use Rattle.taylor.specs.Layout.{ballsIn, ballIn}
+
+pub largest-suc : (n : ℕ) (f : ℕ → ℕ) → largest (suc n) f ≡ max (largest n f) (f n)
+unfolding largest
+largest-suc n f = refl
+
+largest-equal : (n : ℕ) (f g : ℕ → ℕ) → ((i : ℕ) → i < n → f i ≡ g i) → largest n f ≡ largest n g
+unfolding largest
+largest-equal zero f g h = refl
+largest-equal (suc n) f g h = ap₂ max (largest-equal n f g (below n h)) (h n (omega arith))
+
+pub length-balls : (n : ℕ) (values : List ℤ) (radii : List ℕ) → length (ballsIn n values radii) ≡ n
+unfolding ballsIn
+length-balls n values radii = length-tabulate n (ballIn values radii)
+
+pub getD-balls : (n : ℕ) (values : List ℤ) (radii : List ℕ) (i : ℕ) → i < n → getD (ballsIn n values radii) i no-ball ≡ ballIn values radii i
+unfolding ballsIn
+getD-balls n values radii i h = getD-tabulate n (ballIn values radii) no-ball i h
+
+pub greatest-is : (n : ℕ) (values : List ℤ) (radii : List ℕ) → greatest (ballsIn n values radii) ≡ max scale (largest n (λ i. reach (ballIn values radii i)))
+unfolding greatest
+greatest-is n values radii =
+    ap (max scale) (rw (length-balls n values radii) (largest-equal n (λ i. reach (getD (ballsIn n values radii) i no-ball)) (λ i. reach (ballIn values radii i)) (λ i h. ap reach (getD-balls n values radii i h))))

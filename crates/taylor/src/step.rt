@@ -1,0 +1,207 @@
+// One step with its questions: document 01, questions 4 to 6 and 'One rounded step'.
+ghost use mathlib.Core.Path.{_≡_};
+ghost use Prim.Native.Nat.{ℕ, _^_, _≤_, _<_};
+ghost use lib.IntN.{natAbs};
+ghost use lib.Dec.{leb};
+ghost use lib.ListN.{length, getD};
+ghost use Rattle.model.specs.Range.{every};
+ghost use Rattle.model.specs.Sheet.{most};
+ghost use Rattle.model.specs.Step as rule;
+ghost use Rattle.model.specs.Passage as passage;
+ghost use Rattle.model.proofs.Bounds.{TermsInBounds, InBounds};
+ghost use Rattle.taylor.specs.Layout.{quantities, ballIn, ballsIn, termsIn, Numbered};
+ghost use Rattle.taylor.specs.Step.{StepIs};
+use crate::coefficients::fill_orders;
+use crate::coefficients::start_orders;
+use crate::degree::truncate;
+use crate::ratio::greatest;
+use crate::ratio::ratio;
+use crate::row::new_row;
+use model::Refusal;
+use rounding::magnitude;
+
+// 32 wholes.
+const MOST: u64 = 536870912;
+
+// One half, in units.
+const MOST_RATIO: u64 = 8388608;
+
+// The values and radii of up to 8 quantities.
+pub struct Balls {
+    pub values: [i64; 8],
+    pub radii: [u64; 8],
+}
+
+// A row: its degree, and its values and radii.
+pub struct Row {
+    pub degree: usize,
+    pub balls: Balls,
+}
+
+// What a step comes to: a row's degree, or the refusal of the first question that is answered no.
+pub enum Advance {
+    Moves(usize),
+    Stops(Refusal),
+}
+
+// What a step comes to, and the values and radii after it: a refused step leaves those that it started from.
+pub struct Stepped {
+    pub advance: Advance,
+    pub balls: Balls,
+}
+
+// Question 4: is |value| + radius at most 32 wholes for every quantity?
+fn small(n: usize, values: &[i64; 8], radii: &[u64; 8]) -> bool
+    requires { ⌜ n ≤ quantities ⌝ }
+    ensures { λ r. ⌜ r ≡ every n (λ i. leb (rule.reach (ballIn (now (values .entry)) (now (radii .entry)) i)) most) ⌝ }
+{
+    let mut i = 0;
+    while i < n {
+        let value = values[i];
+        let radius = radii[i];
+        if MOST < radius {
+            return false;
+        }
+        if MOST - radius < magnitude(value) {
+            return false;
+        }
+        i += 1;
+    }
+    true
+}
+
+// Question 6: is every radius at most the tolerance?
+fn tolerable(n: usize, tol: u64, radii: &[u64; 8]) -> bool
+    requires { ⌜ n ≤ quantities ⌝ }
+    ensures { λ r. ⌜ r ≡ every n (λ i. leb (getD (now (radii .entry)) i 0) tol) ⌝ }
+{
+    let mut i = 0;
+    while i < n {
+        if tol < radii[i] {
+            return false;
+        }
+        i += 1;
+    }
+    true
+}
+
+// The row of a step whose questions 4 and 5 are answered yes.
+fn row_of(
+    n: usize,
+    step: i64,
+    limit: u64,
+    greatest: u64,
+    ratio: u64,
+    terms: usize,
+    to: &[usize; 32],
+    coef: &[i64; 32],
+    first: &[usize; 32],
+    second: &[usize; 32],
+    values: &[i64; 8],
+    radii: &[u64; 8],
+) -> Row
+    requires { ⌜ InBounds (termsIn terms (now to) (now coef) (now first) (now second)) step (ballsIn n (now values) (now radii)) ⌝ }
+    requires { ⌜ Numbered terms (now first) (now second) ⌝ }
+    requires { ⌜ greatest ≡ rule.greatest (ballsIn n (now values) (now radii)) ⌝ }
+    requires { ⌜ ratio ≡ rule.ratio (termsIn terms (now to) (now coef) (now first) (now second)) step n greatest ⌝ }
+    requires { ⌜ (n ≤ quantities) × (terms ≤ 32) × (2 ≤ limit) × (limit ≤ 2 ^ 32) ⌝ }
+    ensures { λ r. ⌜ record { degree = r .degree; balls = ballsIn n (r .balls .values) (r .balls .radii) } ≡ rule.stepRow (termsIn terms (now (to .entry)) (now (coef .entry)) (now (first .entry)) (now (second .entry))) step limit (ballsIn n (now (values .entry)) (now (radii .entry))) ⌝ }
+{
+    let cut = truncate(greatest, ratio, limit);
+    let degree = cut.degree;
+    let mut table = [0i64; 232];
+    let mut reaches = [0u64; 232];
+    start_orders(n, values, radii, &mut table, &mut reaches);
+    fill_orders(
+        n,
+        step,
+        degree,
+        terms,
+        to,
+        coef,
+        first,
+        second,
+        &mut table,
+        &mut reaches,
+    );
+    let mut row = [0i64; 8];
+    let mut row_radii = [0u64; 8];
+    new_row(
+        n,
+        degree,
+        cut.tail,
+        &table,
+        &reaches,
+        &mut row,
+        &mut row_radii,
+    );
+    Row {
+        degree,
+        balls: Balls {
+            values: row,
+            radii: row_radii,
+        },
+    }
+}
+
+// One step of `step` from the balls `start`, with its questions.
+pub fn take_step(
+    n: usize,
+    step: i64,
+    limit: u64,
+    tol: u64,
+    terms: usize,
+    to: &[usize; 32],
+    coef: &[i64; 32],
+    first: &[usize; 32],
+    second: &[usize; 32],
+    start: Balls,
+) -> Stepped
+    requires { ⌜ TermsInBounds (termsIn terms (now to) (now coef) (now first) (now second)) step n ⌝ }
+    requires { ⌜ (n ≤ quantities) × (terms ≤ 32) ⌝ }
+    requires { ⌜ (2 ≤ limit) × (limit ≤ 2 ^ 32) ⌝ }
+    ensures { λ r. ⌜ StepIs n start (passage.advance (termsIn terms (now (to .entry)) (now (coef .entry)) (now (first .entry)) (now (second .entry))) step limit tol (ballsIn n (start .values) (start .radii))) r ⌝ }
+{
+    let values = start.values;
+    let radii = start.radii;
+    if !small(n, &values, &radii) {
+        return Stepped {
+            advance: Advance::Stops(Refusal::TooLarge),
+            balls: start,
+        };
+    }
+    let scale = greatest(n, &values, &radii);
+    let q = ratio(n, step, scale, terms, to, coef, first, second);
+    if MOST_RATIO < q {
+        return Stepped {
+            advance: Advance::Stops(Refusal::TooFast),
+            balls: start,
+        };
+    }
+    let row = row_of(
+        n,
+        step,
+        limit,
+        scale,
+        q,
+        terms,
+        to,
+        coef,
+        first,
+        second,
+        &values,
+        &radii,
+    );
+    let balls = row.balls;
+    let row_radii = balls.radii;
+    if !tolerable(n, tol, &row_radii) {
+        return Stepped {
+            advance: Advance::Stops(Refusal::Intolerable),
+            balls: start,
+        };
+    }
+    Stepped {
+        advance: Advance::Moves(row.degree),
+        balls,
+    }
+}
