@@ -1,0 +1,64 @@
+-- What the code's answer to a step says of the step by the definition. Assumes nothing.
+use Prim.Native.Nat.{ℕ, _≤_, _<_}
+use mathlib.Core.Path.{_≡_}
+use mathlib.Core.List.{List}
+use lib.IntN.{ℤ}
+use lib.ListN.{length, getD}
+use Rattle.model.specs.Step.{no-ball, Row, stepRow, newRow, degree}
+use Rattle.model.specs.Sheet.{passes, refuses, sheetVerdict}
+use Rattle.model.specs.Passage.{Advance, moves, stops, advance, termsOf}
+use Rattle.model.specs.declared.Ball.{Ball}
+use Rattle.model.specs.declared.Sheet.{Sheet}
+use Rattle.model.specs.declared.Term.{Term}
+use Rattle.model.specs.declared.Refusal.{Refusal}
+use Rattle.model.proofs.Degree.{least-le}
+use Rattle.model.proofs.Ranges.{length-tabulate, getD-tabulate}
+use Rattle.model.proofs.Trusted.{all-tolerated, step-taken}
+use Rattle.taylor.specs.declared.step.Balls.{Balls}
+use Rattle.taylor.specs.declared.step.Stepped.{Stepped}
+use Rattle.taylor.specs.declared.step.Advance.the-variants.{Moves, Stops}
+use Rattle.taylor.specs.Layout.{ballIn, ballsIn}
+use Rattle.taylor.specs.Step.{StepIs}
+use Rattle.passage.specs.Promise.{stepOf}
+
+-- the row of a degree and of balls in arrays
+abbrev pub rowOf : ℕ → ℕ → Balls → Row
+rowOf n degree balls = record { degree = degree; balls = ballsIn n (balls .values) (balls .radii) }
+
+pub length-balls : (n : ℕ) (balls : Balls) → length (ballsIn n (balls .values) (balls .radii)) ≡ n
+unfolding ballsIn
+length-balls n balls = length-tabulate n (ballIn (balls .values) (balls .radii))
+
+pub step-moves : (n : ℕ) (start : Balls) (next : Advance) (stepped : Stepped) (degree : ℕ) → StepIs n start next stepped → stepped .advance ≡ Moves degree → next ≡ moves (rowOf n degree (stepped .balls))
+unfolding StepIs
+step-moves n start (moves row) stepped degree is e =
+    let same : degree ≡ row .degree = cc (is .0) in
+    rw (same, is .1)
+step-moves n start (stops r) stepped degree is e = cc (is .0)
+
+pub step-stops : (n : ℕ) (start : Balls) (next : Advance) (stepped : Stepped) (r : Refusal) → StepIs n start next stepped → stepped .advance ≡ Stops r → next ≡ stops r
+unfolding StepIs
+step-stops n start (moves row) stepped r is e = cc (is .0)
+step-stops n start (stops refusal) stepped r is e = let same : refusal ≡ r = cc (is .0) in rw same
+
+module _ (terms : List Term) (H : ℤ) (limit tol : ℕ) where
+  pub degree-at-most : (balls : List Ball) {row : Row} → advance terms H limit tol balls ≡ moves row → row .degree ≤ 28
+  unfolding stepRow newRow degree
+  degree-at-most balls e = rw (step-taken terms H limit tol balls e .is-row) (least-le 28 _)
+
+  pub radii-at-most : (balls : List Ball) (n degree : ℕ) (row : Balls) → advance terms H limit tol balls ≡ moves (rowOf n degree row) → (i : ℕ) → i < n → getD (row .radii) i 0 ≤ tol
+  unfolding ballsIn ballIn
+  radii-at-most balls n degree row e i h =
+      let tolerated = all-tolerated tol (ballsIn n (row .values) (row .radii)) (step-taken terms H limit tol balls e .is-tolerable) in
+      rw (getD-tabulate n (ballIn (row .values) (row .radii)) no-ball i h) at (tolerated .within i (rw length-tabulate h))
+
+-- ---- one step of a sheet
+
+module _ (sheet : Sheet) (balls : List Ball) where
+  pub step-of-refused : {r : Refusal} → sheetVerdict sheet ≡ refuses r → stepOf sheet balls ≡ stops r
+  unfolding stepOf
+  step-of-refused e = rw (e, stepOf)
+
+  pub step-of-passing : sheetVerdict sheet ≡ passes → stepOf sheet balls ≡ advance (termsOf sheet) (sheet .step) (sheet .tail) (sheet .tol) balls
+  unfolding stepOf
+  step-of-passing e = rw (e, stepOf)

@@ -1,0 +1,84 @@
+-- `passage::layout::starts_of` meets its contract. The loop's invariant: the arrays begin with the starts passed.
+-- Assumes nothing.
+use Prim.Native.Nat.{_-_, _≤_}
+use mathlib.Core.Path.{refl}
+use native.Mathlib.Omega.{arith}
+use lib.IntN.{pos}
+use lib.ListN.{getD}
+use mir.Facts.{toZ-ofZ}
+use Rattle.model.specs.Sheet.{no-quantity}
+use Rattle.model.specs.Passage.{startBall, startsOf}
+use Rattle.model.proofs.Ranges.{tabulate-equal}
+use Rattle.model.proofs.Stores.{Begins, begins-with-none, begins-with-one-more}
+use Rattle.taylor.specs.Layout.{ballIn, ballsIn}
+use borrow.Author.Needs.{needs}
+use Rattle.passage.proofs.layout.starts_of.Statement.{statement}
+use Rattle.passage.proofs.layout.starts_of.Tie as tie
+
+abbrev Inv-loop : tie.InvT-loop
+Inv-loop sheet values₀ radii₀ n i₀ values radii i =
+    (i ≤ n) × Begins (λ k. startBall (getD (sheet .quantity) k no-quantity) .value) (pos 0) 8 i values × Begins (λ k. startBall (getD (sheet .quantity) k no-quantity) .radius) 0 8 i radii
+
+abbrev μ-loop : tie.MeasureT-loop
+μ-loop sheet values₀ radii₀ n i₀ values radii i = n - i
+
+loop-holds : tie.Need-loop-holds Inv-loop μ-loop
+loop-holds c = (omega arith, begins-with-none refl, begins-with-none refl)
+
+mul-quantity : tie.Need-mul-quantity Inv-loop μ-loop
+mul-quantity c = omega arith
+
+element-copy-out-quantity : tie.Need-element-copy-out-quantity Inv-loop μ-loop
+element-copy-out-quantity c = omega arith
+
+start-value-requires : tie.Need-start-value-requires Inv-loop μ-loop
+start-value-requires c κs = search needs
+
+mul-values : tie.Need-mul-values Inv-loop μ-loop
+mul-values c = omega arith
+
+array-set-from-values : tie.Need-array-set-from-values Inv-loop μ-loop
+array-set-from-values c = omega arith
+
+mul-radii : tie.Need-mul-radii Inv-loop μ-loop
+mul-radii c = omega arith
+
+array-write-radii : tie.Need-array-write-radii Inv-loop μ-loop
+array-write-radii c = omega arith
+
+add-i : tie.Need-add-i Inv-loop μ-loop
+add-i c = omega arith
+
+loop-less : tie.Need-loop-less Inv-loop μ-loop
+loop-less c = omega arith
+
+loop-again : tie.Need-loop-again Inv-loop μ-loop
+unfolding startBall no-quantity
+loop-again c =
+    let loop = c .before .before .before .loop in
+    (omega arith, rw (toZ-ofZ (record { sfits = c .start-value .ok }), c .start-value .ensures) (begins-with-one-more (loop .inv .1) (omega arith)), begins-with-one-more (loop .inv .2) (omega arith))
+
+returns : tie.Need-returns Inv-loop μ-loop
+unfolding ballsIn ballIn startsOf startBall
+returns c =
+    let begun = c .before .loop .inv in
+    tabulate-equal (c .before .before .args .t1 .n) _ _ (λ i h. λ t. record { value = begun .1 .entry i (omega arith) t; radius = begun .2 .entry i (omega arith) t })
+
+pub starts-of-spec : {M : Type 1} → statement M
+starts-of-spec =
+    tie.close
+    (tie.spec
+    Inv-loop
+    μ-loop
+    loop-holds
+    mul-quantity
+    element-copy-out-quantity
+    start-value-requires
+    mul-values
+    array-set-from-values
+    mul-radii
+    array-write-radii
+    add-i
+    loop-less
+    loop-again
+    returns)

@@ -1,0 +1,112 @@
+-- `passage::run::run_steps` meets its contract. The loop's invariant: the passage is under way.
+-- Assumes nothing.
+use Prim.Native.Nat.{_-_}
+use native.Mathlib.Omega.{arith}
+use Rattle.model.specs.Passage.{width}
+use Rattle.model.proofs.Follow.{Underway, underway-at-start, underway-length, room-for-row, moved, finished-by-refusal, finished}
+use Rattle.taylor.specs.Layout.{quantities, ballsIn, termsIn}
+use mir.Syntax.{w64}
+use mir.Val.{toZ}
+use mir.Facts.{toZ-ofZ}
+use borrow.Author.Needs.{needs}
+use Rattle.passage.proofs.Rows.{rows-fit}
+use Rattle.passage.proofs.Steps.{step-moves, step-stops, length-balls, degree-at-most, radii-at-most}
+use Rattle.passage.proofs.run.run_steps.Statement.{statement}
+use Rattle.passage.proofs.run.run_steps.Tie as tie
+
+abbrev Inv-loop : tie.InvT-loop
+Inv-loop n steps step limit tol terms to coef first second rows₀ places balls₀ done₀ rows balls done =
+    Underway (termsIn terms to coef first second) (toZ w64 step) limit tol steps n (ballsIn n (balls₀ .values) (balls₀ .radii)) rows₀ done (ballsIn n (balls .values) (balls .radii)) rows
+
+abbrev μ-loop : tie.MeasureT-loop
+μ-loop n steps step limit tol terms to coef first second rows₀ places balls₀ done₀ rows balls done = steps - done
+
+width-requires : tie.Need-width-requires Inv-loop μ-loop
+width-requires c κs = c .pre .1 .0 .0
+
+loop-holds : tie.Need-loop-holds Inv-loop μ-loop
+loop-holds c = underway-at-start _ _ _ _
+
+take-step-requires : tie.Need-take-step-requires Inv-loop μ-loop
+take-step-requires c κs =
+    let a = c .before .before .before in
+    (rw (toZ-ofZ (a .fits .step)) (a .pre .0), ((a .pre .1 .0 .0, a .pre .1 .0 .1), (a .pre .1 .1 .0 .0, a .pre .1 .1 .0 .1)))
+
+enum-known-advance : tie.Need-enum-known-advance Inv-loop μ-loop
+enum-known-advance c = search needs
+
+add-number : tie.Need-add-number Inv-loop μ-loop
+add-number c = omega arith
+
+same-length : tie.Need-same-length Inv-loop μ-loop
+same-length c = underway-length (c .before .before .before .before .before .before .before .before .loop .inv)
+
+returns : tie.Need-returns Inv-loop μ-loop
+returns c =
+    let turn = c .before .before .before .before .before .before .before in
+    let a = turn .before .before .before in
+    let step = c .before .before .before .before .before .before .take-step in
+    let stops = step-stops (a .args .n) _ _ (step .result) _ (step .ensures) (c .before .advance .given .1) in
+    rw (toZ-ofZ (a .fits .step)) at (finished-by-refusal _ (turn .before .loop .inv) (a .pre .1 .1 .1) (turn .loop-test .taken) stops)
+
+enum-known-advance-2 : tie.Need-enum-known-advance-2 Inv-loop μ-loop
+enum-known-advance-2 c = search needs
+
+mul-put-row : tie.Need-mul-put-row Inv-loop μ-loop
+unfolding quantities
+mul-put-row c =
+    let turn = c .before .before .before .before .before .before .before .before .before in
+    let entry = turn .before .before in
+    rw (entry .width .ensures) (omega (arith, rows-fit (turn .before .loop .done) (entry .before .args .n) (omega arith) (entry .before .pre .1 .0 .0)))
+
+put-row-requires : tie.Need-put-row-requires Inv-loop μ-loop
+put-row-requires c κs =
+    let turn = c .before .before .before .before .before .before .before .before .before .before in
+    let a = turn .before .before .before in
+    let step = c .before .before .before .before .before .before .before .before .before .take-step in
+    let moves = step-moves (a .args .n) _ _ (step .result) _ (step .ensures) (c .before .before .before .before .advance2 .given .1) in
+    (a .pre .1 .0 .0, (omega (arith, degree-at-most _ _ _ _ _ moves), (rw (turn .before .before .width .ensures) (room-for-row (turn .before .loop .inv) (a .pre .1 .1 .1) (turn .loop-test .taken)), λ i h. omega (arith, radii-at-most _ _ _ _ _ (a .args .n) _ (step .result .balls) moves i h, a .pre .1 .1 .0 .2))))
+
+add-done : tie.Need-add-done Inv-loop μ-loop
+add-done c = omega arith
+
+loop-less : tie.Need-loop-less Inv-loop μ-loop
+loop-less c = omega arith
+
+loop-again : tie.Need-loop-again Inv-loop μ-loop
+loop-again c =
+    let turn = c .before .before .before .before .before .before .before .before .before .before .before .before in
+    let a = turn .before .before .before in
+    let step = c .before .before .before .before .before .before .before .before .before .before .before .take-step in
+    let moves = step-moves (a .args .n) _ _ (step .result) _ (step .ensures) (c .before .before .before .before .before .before .advance2 .given .1) in
+    rw (c .before .put-row .ensures, turn .before .before .width .ensures) (moved _ (turn .before .loop .inv) (turn .loop-test .taken) moves (length-balls (a .args .n) (step .result .balls)))
+
+same-length-2 : tie.Need-same-length-2 Inv-loop μ-loop
+same-length-2 c = underway-length (c .before .loop .inv)
+
+returns-2 : tie.Need-returns-2 Inv-loop μ-loop
+returns-2 c =
+    let a = c .before .before .before in
+    rw (toZ-ofZ (a .fits .step)) at (finished (c .before .loop .inv) (a .pre .1 .1 .1) (c .loop-test .left))
+
+pub run-steps-spec : {M : Type 1} → statement M
+run-steps-spec =
+    tie.close
+    (tie.spec
+    Inv-loop
+    μ-loop
+    width-requires
+    loop-holds
+    take-step-requires
+    enum-known-advance
+    add-number
+    same-length
+    returns
+    enum-known-advance-2
+    mul-put-row
+    put-row-requires
+    add-done
+    loop-less
+    loop-again
+    same-length-2
+    returns-2)

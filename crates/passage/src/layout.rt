@@ -1,0 +1,71 @@
+// The sheet's terms and starts, laid out once in flat arrays for all the steps of a passage.
+ghost use mathlib.Core.Path.{_≡_};
+ghost use Prim.Native.Nat.{_≤_};
+ghost use Rattle.model.specs.Passage as passage;
+ghost use Rattle.taylor.specs.Layout.{ballsIn, termsIn};
+use model::Sheet;
+use model::Start;
+use taylor::Balls;
+
+// The terms' targets, coefficients and factors.
+pub struct Terms {
+    pub to: [usize; 32],
+    pub coef: [i64; 32],
+    pub first: [usize; 32],
+    pub second: [usize; 32],
+}
+
+pub fn terms_of(sheet: Sheet) -> Terms
+    requires { ⌜ sheet .terms ≤ 32 ⌝ }
+    ensures { λ r. ⌜ termsIn (sheet .terms) (r .to) (r .coef) (r .first) (r .second) ≡ passage.termsOf sheet ⌝ }
+{
+    let mut to = [0usize; 32];
+    let mut coef = [0i64; 32];
+    let mut first = [0usize; 32];
+    let mut second = [0usize; 32];
+    let count = sheet.terms;
+    let mut j = 0;
+    while j < count {
+        let term = sheet.term[j];
+        let coefficient = term.coef;
+        to[j] = term.to;
+        coef[j] = coefficient;
+        first[j] = term.first;
+        second[j] = term.second;
+        j += 1;
+    }
+    Terms {
+        to,
+        coef,
+        first,
+        second,
+    }
+}
+
+// A start's number of units. Where there is no reading the sheet is refused before this is asked.
+fn start_value(start: Start) -> i64
+    ensures { λ r. ⌜ r ≡ passage.startValue start ⌝ }
+{
+    match start {
+        Start::Reading(value) => value,
+        Start::Missing => 0,
+    }
+}
+
+pub fn starts_of(sheet: Sheet) -> Balls
+    requires { ⌜ sheet .n ≤ 8 ⌝ }
+    ensures { λ r. ⌜ ballsIn (sheet .n) (r .values) (r .radii) ≡ passage.startsOf sheet ⌝ }
+{
+    let mut values = [0i64; 8];
+    let mut radii = [0u64; 8];
+    let n = sheet.n;
+    let mut i = 0;
+    while i < n {
+        let quantity = sheet.quantity[i];
+        let start = quantity.start;
+        values[i] = start_value(start);
+        radii[i] = quantity.radius;
+        i += 1;
+    }
+    Balls { values, radii }
+}
