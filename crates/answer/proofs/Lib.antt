@@ -1,0 +1,5 @@
+mod Pieces
+mod Decimal
+mod Rows
+mod Lengths
+mod Answered
