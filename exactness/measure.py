@@ -1,0 +1,174 @@
+"""Demand 3 run on random small passages: exact states from rational starts inside the radii, at
+degrees no lower than printed, lie within every printed radius. Prints how much of the radius the
+exact states use. Exits 1 at the first state outside.
+
+usage: measure.py REFERENCE SEED COUNT      (REFERENCE is the second program's path)
+"""
+
+import random
+import subprocess
+import sys
+from fractions import Fraction
+from statistics import median
+
+from exact_sum import SCALE, exact_sum, lies_within
+
+LIMIT = 1 << 29
+MOST_BITS = 40_000  # Exact states with longer denominators than this are not carried further.
+EXACT, EXACT_WIDE_TAIL = "start exact, tail 2 to 100", "start exact, tail 1,000 and up"
+INSIDE, ENDS = "start anywhere inside", "start at its ends"
+
+
+def random_passage(rng):
+    """A passage of one to three quantities, one to four terms and one to four steps."""
+    n = rng.randint(1, 3)
+    reach = rng.choice([SCALE // 100, SCALE, 4 * SCALE, 30 * SCALE])
+    widest = rng.choice([1, 1000, SCALE // 25, reach // 20])
+    starts = [(rng.randint(-reach, reach), rng.randint(1, widest)) for _ in range(n)]
+    terms = []
+    for _ in range(rng.randint(1, 4)):
+        first = rng.randint(0, n)
+        second = rng.randint(0, n) if first else 0
+        strongest = rng.choice([SCALE // 10, SCALE, 16 * SCALE])
+        terms.append((rng.randint(1, n), rng.randint(-strongest, strongest), first, second))
+    return {
+        "steps": rng.choice([1, 1, 2, 3, 4]),
+        "step": longest_step(starts, terms, rng.uniform(0.01, 0.5)),
+        "tail": rng.choice([2, 10, 100, 1000, 10_000, 100_000, 1_000_000]),
+        "starts": starts,
+        "terms": terms,
+    }
+
+
+def longest_step(starts, terms, ratio):
+    """About the longest step whose ratio is at most `ratio`."""
+    scale = max([SCALE] + [abs(value) + radius for value, radius in starts]) / SCALE
+    sizes = {}
+    for to, coef, first, second in terms:
+        power = (first > 0) + (second > 0) - 1
+        sizes[to] = sizes.get(to, 0) + abs(coef) / SCALE * scale**power
+    largest = max(sizes.values())
+    return SCALE if largest <= ratio else max(1, int(ratio / largest * SCALE))
+
+
+def sheet_text(passage):
+    lines = [f"n={len(passage['starts'])}"]
+    lines += [f"{key}={passage[key]}" for key in ("steps", "step", "tail")]
+    lines += [f"tol={LIMIT}"]
+    for value, radius in passage["starts"]:
+        lines += [f"start={value}", f"radius={radius}"]
+    lines += [f"terms={len(passage['terms'])}"]
+    for to, coef, first, second in passage["terms"]:
+        lines += [f"to={to}", f"coef={coef}", f"first={first}", f"second={second}"]
+    return "\n".join(lines) + "\n"
+
+
+def printed_rows(reference, passage):
+    """The rows of the answer: degree, values, radii."""
+    answer = subprocess.run(
+        [reference], input=sheet_text(passage), capture_output=True, text=True, check=True
+    ).stdout
+    rows = []
+    for line in answer.splitlines():
+        key, number = line.split("=")
+        if key == "degree":
+            rows.append((int(number), [], []))
+        elif key == "value":
+            rows[-1][1].append(int(number))
+        elif key == "radius":
+            rows[-1][2].append(int(number))
+    return rows
+
+
+def trials(rng, passage):
+    """The passage from a start known exactly, from anywhere inside its radii, and from their ends:
+    for each a title, the passage, and the exact state to start from."""
+
+    def state(parts):
+        return [(value + next(parts) * radius) / SCALE for value, radius in passage["starts"]]
+
+    inside = iter(lambda: Fraction(rng.randint(-999, 999), 999), None)
+    ends = iter(lambda: Fraction(rng.choice([-1, 1])), None)
+    centre = iter(lambda: Fraction(0), None)
+    exact = passage | {"starts": [(value, 0) for value, _ in passage["starts"]]}
+    return [
+        (EXACT if passage["tail"] <= 100 else EXACT_WIDE_TAIL, exact, state(centre)),
+        (INSIDE, passage, state(inside)),
+        (ENDS, passage, state(ends)),
+    ]
+
+
+class Shares:
+    """Used parts of radii, |exact - value| / radius, sorted into ranges."""
+
+    EDGES = [0.001, 0.01, 0.1, 0.2, 0.3, 0.4, 0.5, 0.6, 0.7, 0.8, 0.9, 1]
+
+    def __init__(self):
+        self.used = []
+        self.radii = []
+
+    def add(self, state, values, radii):
+        for number, value, radius in zip(state, values, radii):
+            if radius:
+                self.used.append(float(abs(SCALE * number - value) / radius))
+                self.radii.append(radius)
+
+    def column(self):
+        counts = [0] * len(self.EDGES)
+        for used in self.used:
+            counts[next(i for i, edge in enumerate(self.EDGES) if used <= edge)] += 1
+        shares = [f"{100 * count / len(self.used):.1f} %" for count in counts]
+        return shares + [
+            f"{median(self.used):.5f}",
+            f"{max(self.used):.4f}",
+            f"{median(self.radii):.0f}",
+            len(self.used),
+        ]
+
+
+def print_table(columns):
+    names = [f"up to {edge}" for edge in Shares.EDGES]
+    names += ["median part", "largest part", "median radius, in units", "radii measured"]
+    print("| part of the radius used | " + " | ".join(columns) + " |")
+    print("|---|" + "---:|" * len(columns))
+    for name, *cells in zip(names, *(shares.column() for shares in columns.values())):
+        print(f"| {name} | " + " | ".join(map(str, cells)) + " |")
+
+
+def check(rng, rows, passage, state, shares):
+    """Carries an exact state along the printed rows; gives back the number of rows it went, or
+    None where it leaves a radius."""
+    gone = 0
+    for degree, values, radii in rows:
+        degree += rng.choice([0, 0, 1, 2, 5])
+        bits = max(number.denominator.bit_length() for number in state) + SCALE.bit_length()
+        if bits * (degree + 1) > MOST_BITS:
+            break
+        state = exact_sum(state, passage["terms"], passage["step"], degree)
+        if not lies_within(state, values, radii):
+            return None
+        shares.add(state, values, radii)
+        gone += 1
+    return gone
+
+
+def main():
+    reference, seed, count = sys.argv[1], int(sys.argv[2]), int(sys.argv[3])
+    rng = random.Random(seed)
+    columns = {title: Shares() for title in (EXACT, EXACT_WIDE_TAIL, INSIDE, ENDS)}
+    states = 0
+    for _ in range(count):
+        for title, passage, state in trials(rng, random_passage(rng)):
+            rows = printed_rows(reference, passage)
+            gone = check(rng, rows, passage, state, columns[title])
+            if gone is None:
+                print(f"outside a printed radius ({title}):\n{sheet_text(passage)}", end="")
+                return 1
+            states += gone
+    print_table(columns)
+    print(f"{states} exact states of {3 * count} passages from seed {seed}, all within their radii")
+    return 0
+
+
+if __name__ == "__main__":
+    sys.exit(main())

@@ -1,0 +1,13 @@
+//! Document 01 implemented again, from the document alone: read a sheet, run a passage into a lent
+//! buffer, print the answer. The proved planner is compared with it, byte for byte.
+
+pub mod answer;
+pub mod compare;
+pub mod explore;
+pub mod generate;
+pub mod passage;
+pub mod random;
+pub mod rounding;
+pub mod sheet;
+pub mod step;
+pub mod timing;

@@ -1,0 +1,46 @@
+//! A passage: step after step from the start, each row into a lent buffer.
+
+use crate::sheet::{MOST_QUANTITIES, Refusal, Sheet};
+use crate::step::{self, State};
+
+/// A refused passage: why, and at which step (0 before step 1).
+#[derive(Clone, Copy, Debug, PartialEq, Eq)]
+pub struct Refused {
+    pub refusal: Refusal,
+    pub at: usize,
+}
+
+/// Runs a passage into `rows`. Places beyond the rows written keep what they held.
+pub fn run(sheet: &Sheet, rows: &mut [i64]) -> Result<(), Refused> {
+    let before = |refusal| Refused { refusal, at: 0 };
+    sheet.check().map_err(before)?;
+    if rows.len() < sheet.places() {
+        return Err(before(Refusal::BufferTooShort));
+    }
+    let n = sheet.starts.len();
+    let mut state = start(sheet);
+    let places = rows.chunks_exact_mut(sheet.row_places());
+    for (at, place) in (1..=sheet.steps as usize).zip(places) {
+        let row = step::advance(sheet, &state).map_err(|refusal| Refused { refusal, at })?;
+        state = row.state;
+        place[0] = row.degree as i64;
+        place[1..=n].copy_from_slice(&state.values[..n]);
+        for (place, &radius) in place[n + 1..].iter_mut().zip(&state.radii) {
+            *place = radius as i64;
+        }
+    }
+    Ok(())
+}
+
+/// The state before step 1 of a sheet that `Sheet::check` accepts.
+pub fn start(sheet: &Sheet) -> State {
+    let mut state = State {
+        values: [0; MOST_QUANTITIES],
+        radii: [0; MOST_QUANTITIES],
+    };
+    for (i, start) in sheet.starts.iter().enumerate() {
+        state.values[i] = start.value.expect("a checked sheet has every reading");
+        state.radii[i] = start.radius as u64;
+    }
+    state
+}

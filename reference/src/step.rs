@@ -1,0 +1,158 @@
+//! One rounded step of document 01: ratio, tail and degree, then the coefficients and the next row.
+
+use crate::rounding::{SCALE, SCALE_SIZE, near, up};
+use crate::sheet::{LIMIT, MOST_QUANTITIES, Refusal, Sheet, Term};
+
+/// The largest ratio that a step may have: one half.
+pub const MOST_RATIO: u64 = SCALE_SIZE / 2;
+
+/// The degree never passes this.
+pub const MOST_DEGREE: usize = 28;
+
+/// The value and the radius of each quantity; 0 beyond the sheet's quantities.
+#[derive(Clone, Debug, PartialEq, Eq)]
+pub struct State {
+    pub values: [i64; MOST_QUANTITIES],
+    pub radii: [u64; MOST_QUANTITIES],
+}
+
+/// What a step makes of a state.
+#[derive(Clone, Debug, PartialEq, Eq)]
+pub struct Row {
+    pub degree: usize,
+    pub state: State,
+}
+
+/// One step, or the refusal of questions 4 to 6.
+pub fn advance(sheet: &Sheet, state: &State) -> Result<Row, Refusal> {
+    let n = sheet.starts.len();
+    let sizes = || (0..n).map(|i| state.values[i].unsigned_abs() + state.radii[i]);
+    if sizes().any(|size| size > LIMIT as u64) {
+        return Err(Refusal::ValueTooLarge);
+    }
+    let scale = sizes().fold(SCALE_SIZE, u64::max);
+    let ratio = ratio(sheet, scale);
+    if ratio > MOST_RATIO {
+        return Err(Refusal::StepTooLong);
+    }
+    let (degree, tail) = degree_and_tail(scale, ratio, sheet.tail as u64);
+    let next = Coefficients::of(sheet, state, degree).sum(n, degree, tail);
+    if next.radii[..n].iter().any(|&r| r > sheet.tol as u64) {
+        return Err(Refusal::RadiusTooLarge);
+    }
+    Ok(Row {
+        degree,
+        state: next,
+    })
+}
+
+/// The ratio q of a step from states of the common scale G.
+pub fn ratio(sheet: &Sheet, scale: u64) -> u64 {
+    // The sums of |A| over a target's terms with no, one and two factors.
+    let mut sums = [[0; 3]; MOST_QUANTITIES];
+    for term in &sheet.terms {
+        sums[term.to as usize - 1][factors(term)] += term.coef.unsigned_abs();
+    }
+    let sizes = sums
+        .iter()
+        .map(|[none, one, two]| up(SCALE_SIZE * none, scale) + one + up(scale * two, SCALE_SIZE));
+    let largest = sizes.max().unwrap_or(0);
+    up(largest * sheet.step as u64, SCALE_SIZE)
+}
+
+fn factors(term: &Term) -> usize {
+    usize::from(term.first != 0) + usize::from(term.second != 0)
+}
+
+/// The least degree whose tail is at most the sheet's, with that tail.
+fn degree_and_tail(scale: u64, ratio: u64, most: u64) -> (usize, u64) {
+    let mut power = scale;
+    for degree in 0..=MOST_DEGREE {
+        power = up(power * ratio, SCALE_SIZE);
+        let tail = up(power * SCALE_SIZE, SCALE_SIZE - ratio);
+        if tail <= most {
+            return (degree, tail);
+        }
+    }
+    unreachable!("at a ratio of at most one half the degree never passes 28")
+}
+
+/// The rounded coefficients c of each quantity, and the radii e around them.
+struct Coefficients {
+    c: [[i64; MOST_DEGREE + 1]; MOST_QUANTITIES],
+    e: [[u64; MOST_DEGREE + 1]; MOST_QUANTITIES],
+}
+
+impl Coefficients {
+    fn of(sheet: &Sheet, state: &State, degree: usize) -> Self {
+        let n = sheet.starts.len();
+        let mut all = Coefficients {
+            c: [[0; MOST_DEGREE + 1]; MOST_QUANTITIES],
+            e: [[0; MOST_DEGREE + 1]; MOST_QUANTITIES],
+        };
+        for i in 0..n {
+            all.c[i][0] = state.values[i];
+            all.e[i][0] = state.radii[i];
+        }
+        for k in 0..degree {
+            let mut rates = [0; MOST_QUANTITIES];
+            let mut errors = [0; MOST_QUANTITIES];
+            for term in &sheet.terms {
+                let (s, f) = all.product(term, k);
+                let (v, g) = scaled(sheet.step, term.coef, s, f);
+                rates[term.to as usize - 1] += v;
+                errors[term.to as usize - 1] += g;
+            }
+            for i in 0..n {
+                all.c[i][k + 1] = near(rates[i], k as i64 + 1);
+                all.e[i][k + 1] = up(errors[i], k as u64 + 1) + 1;
+            }
+        }
+        all
+    }
+
+    /// S and F: the k-th coefficient of the product of a term's factors, and its error.
+    fn product(&self, term: &Term, k: usize) -> (i64, u64) {
+        match (term.first as usize, term.second as usize) {
+            (0, _) => (if k == 0 { SCALE } else { 0 }, 0),
+            (first, 0) => (self.c[first - 1][k], self.e[first - 1][k]),
+            (first, second) => {
+                let values = self.c[first - 1][..=k].iter();
+                let radii = self.e[first - 1][..=k].iter();
+                let other_values = self.c[second - 1][..=k].iter().rev();
+                let other_radii = self.e[second - 1][..=k].iter().rev();
+                let (mut s, mut f) = (0, 0);
+                for (((&c, &e), &d), &r) in values.zip(radii).zip(other_values).zip(other_radii) {
+                    s += near(c * d, SCALE);
+                    f += up(
+                        c.unsigned_abs() * r + d.unsigned_abs() * e + e * r,
+                        SCALE_SIZE,
+                    ) + 1;
+                }
+                (s, f)
+            }
+        }
+    }
+
+    /// The next row's values and radii.
+    fn sum(&self, n: usize, degree: usize, tail: u64) -> State {
+        let mut next = State {
+            values: [0; MOST_QUANTITIES],
+            radii: [0; MOST_QUANTITIES],
+        };
+        for i in 0..n {
+            next.values[i] = self.c[i][..=degree].iter().sum();
+            next.radii[i] = self.e[i][..=degree].iter().sum::<u64>() + tail;
+        }
+        next
+    }
+}
+
+/// v and g: a product S with error F, times the step, times the term's coefficient.
+fn scaled(step: i64, coef: i64, s: i64, f: u64) -> (i64, u64) {
+    let q = near(step * s, SCALE);
+    let error = up(step as u64 * f, SCALE_SIZE) + 1;
+    let v = near(coef * q, SCALE);
+    let g = up(coef.unsigned_abs() * error, SCALE_SIZE) + 1;
+    (v, g)
+}

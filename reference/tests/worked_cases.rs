@@ -1,0 +1,214 @@
+//! Document 01's worked cases A to J and the ones it only runs. (Case I stands beside the roundings.)
+
+use reference::answer::answer;
+use reference::passage::{Refused, run};
+use reference::sheet::{Refusal, Sheet, Start, Term, read};
+
+const CASE_A: &str = "n=1\nsteps=1\nstep=4194304\ntail=349526\ntol=349534\nstart=16777216\nradius=0\n\
+    terms=1\nto=1\ncoef=16777216\nfirst=1\nsecond=1\n";
+
+const MARK: i64 = i64::MIN;
+
+/// Case A's sheet with some of its lines replaced.
+fn edited(edits: &[(&str, &str)]) -> String {
+    edits.iter().fold(CASE_A.to_string(), |sheet, (old, new)| {
+        let old = format!("{old}\n");
+        assert_eq!(sheet.matches(&old).count(), 1, "{old} occurs once");
+        sheet.replace(&old, &format!("{new}\n"))
+    })
+}
+
+fn answer_of(sheet: &str) -> String {
+    answer(sheet.as_bytes(), &mut [MARK; 400 * 17])
+}
+
+/// The answer of one row for one quantity.
+fn one_row(degree: u32, value: i64, radius: i64) -> String {
+    format!("row=1\ndegree={degree}\nvalue={value}\nradius={radius}\nresult=0\nat=0\n")
+}
+
+fn refused(result: u8, at: usize) -> String {
+    format!("result={result}\nat={at}\n")
+}
+
+#[test]
+fn case_a() {
+    assert_eq!(answer_of(CASE_A), one_row(2, 22020096, 349534));
+}
+
+#[test]
+fn case_b() {
+    let sheet = edited(&[("tail=349526", "tail=349525"), ("tol=349534", "tol=87393")]);
+    assert_eq!(answer_of(&sheet), one_row(3, 22282240, 87393));
+}
+
+#[test]
+fn case_c() {
+    let sheet = edited(&[("tol=349534", "tol=349533")]);
+    assert_eq!(answer_of(&sheet), refused(8, 1));
+}
+
+#[test]
+fn case_d() {
+    let at_the_limit = edited(&[("step=4194304", "step=8388608")]);
+    assert!(answer_of(&at_the_limit).starts_with("row=1\ndegree=6\n"));
+    let beyond = edited(&[("step=4194304", "step=8388609")]);
+    assert_eq!(answer_of(&beyond), refused(7, 1));
+}
+
+#[test]
+fn case_e() {
+    let sheet = edited(&[
+        ("start=16777216", "start=0"),
+        ("first=1", "first=0"),
+        ("second=1", "second=0"),
+        ("step=4194304", "step=8388608"),
+        ("tail=349526", "tail=2"),
+        ("tol=349534", "tol=49"),
+    ]);
+    assert_eq!(answer_of(&sheet), one_row(23, 8388608, 49));
+}
+
+#[test]
+fn case_f() {
+    let no_terms = "n=1\nsteps=1\nstep=5\ntail=2\ntol=7\nstart=-9\nradius=7\nterms=0\n";
+    assert_eq!(answer_of(no_terms), one_row(0, -9, 7));
+    let radius_over_tol = no_terms.replace("tol=7", "tol=6");
+    assert_eq!(answer_of(&radius_over_tol), refused(8, 1));
+    let too_large = no_terms.replace("start=-9", "start=-536870906");
+    assert_eq!(answer_of(&too_large), refused(6, 1));
+}
+
+#[test]
+fn case_g() {
+    let sheet = "n=1\nsteps=1\nstep=1\ntail=2\ntol=1\nstart=536870912\nradius=0\nterms=0\n";
+    assert_eq!(answer_of(sheet), one_row(0, 536870912, 0));
+    let beyond = sheet.replace("radius=0", "radius=1");
+    assert_eq!(answer_of(&beyond), refused(6, 1));
+}
+
+#[test]
+fn case_h() {
+    let sheet = edited(&[
+        ("start=16777216", "start=536870912"),
+        ("second=1", "second=0"),
+        ("step=4194304", "step=8388608"),
+        ("tail=349526", "tail=2"),
+        ("tol=349534", "tol=536870912"),
+    ]);
+    assert!(answer_of(&sheet).starts_with("row=1\ndegree=28\n"));
+}
+
+#[test]
+fn case_j() {
+    let two_steps = edited(&[("steps=1", "steps=2"), ("tol=349534", "tol=536870912")]);
+    let sheet = read(two_steps.as_bytes()).unwrap();
+    assert_eq!(run(&sheet, &mut [MARK; 6]), Ok(()));
+    let mut short = [MARK; 5];
+    let refusal = Refusal::BufferTooShort;
+    assert_eq!(run(&sheet, &mut short), Err(Refused { refusal, at: 0 }));
+    assert_eq!(short, [MARK; 5]);
+}
+
+#[test]
+fn cases_that_are_only_run() {
+    assert_eq!(answer_of(""), refused(2, 0));
+    let start = |text| edited(&[("start=16777216", text)]);
+    assert_eq!(answer_of(&start("start=none")), refused(4, 0));
+    assert!(answer_of(&start("start=0")).ends_with(&refused(0, 0)));
+    assert_eq!(answer_of(&start("start=-0")), refused(2, 0));
+    let other = |old, new| answer_of(&edited(&[(old, new)]));
+    assert_eq!(other("step=4194304", "step=007"), refused(2, 0));
+    assert_eq!(other("steps=1", "steps=0"), refused(3, 0));
+    assert_eq!(other("steps=1", "steps=401"), refused(3, 0));
+    let misspelt_below = edited(&[("n=1", "n=9"), ("steps=1", "stops=1")]);
+    assert_eq!(answer_of(&misspelt_below), refused(3, 0));
+    assert_eq!(answer_of(&"n".repeat(4097)), refused(1, 0));
+    assert_eq!(answer_of(&"n".repeat(4096)), refused(2, 0));
+}
+
+#[test]
+fn spelling_comes_before_range_on_a_line() {
+    let other = |old, new| answer_of(&edited(&[(old, new)]));
+    assert_eq!(other("tol=349534", "tol=1000000000"), refused(2, 0));
+    assert_eq!(other("tol=349534", "tol=999999999"), refused(3, 0));
+    assert_eq!(other("tol=349534", "tol=-1"), refused(2, 0));
+    assert_eq!(other("coef=16777216", "coef=-268435457"), refused(3, 0));
+    assert_eq!(other("first=1", "first=0"), refused(3, 0));
+    assert_eq!(other("radius=0", "radius=none"), refused(2, 0));
+    let line_feed_missing = CASE_A.trim_end();
+    assert_eq!(answer_of(line_feed_missing), refused(2, 0));
+    assert_eq!(
+        answer_of("n=1\nsteps=1\nstep=9\ntail=2\ntol=1\nstart=none"),
+        refused(2, 0)
+    );
+    assert_eq!(answer_of(&format!("{CASE_A}\n")), refused(2, 0));
+}
+
+#[test]
+fn a_refused_passage_keeps_its_earlier_rows_and_every_other_place() {
+    let sheet = edited(&[("steps=1", "steps=3")]);
+    let mut rows = [MARK; 12];
+    assert_eq!(
+        answer(sheet.as_bytes(), &mut rows),
+        "row=1\ndegree=2\nvalue=22020096\nradius=349534\nresult=8\nat=2\n"
+    );
+    assert_eq!(rows[..3], [2, 22020096, 349534]);
+    assert_eq!(rows[3..], [MARK; 9]);
+}
+
+/// As much work as a sheet can ask for: 32 terms of two factors, 400 steps, each of degree 28.
+#[test]
+fn the_largest_sheet() {
+    let text = answer_of(include_str!("../benches/largest.sheet"));
+    assert_eq!(text.matches("degree=28\n").count(), 400);
+    assert!(text.ends_with(&refused(0, 0)));
+}
+
+#[test]
+fn a_passage_of_numbers_meets_the_sheets_questions_in_field_order() {
+    let start = Start {
+        value: Some(0),
+        radius: 0,
+    };
+    let term = Term {
+        to: 1,
+        coef: 1,
+        first: 1,
+        second: 1,
+    };
+    let sheet = Sheet {
+        steps: 2,
+        step: 1,
+        tail: 2,
+        tol: 1,
+        starts: vec![start; 2],
+        terms: vec![term],
+    };
+    assert_eq!(sheet.check(), Ok(()));
+    let missing = Start {
+        value: None,
+        ..start
+    };
+    let wide = Start {
+        radius: -1,
+        ..start
+    };
+    let with_starts = |first, second| Sheet {
+        starts: vec![first, second],
+        ..sheet.clone()
+    };
+    assert_eq!(with_starts(wide, missing).check(), Err(Refusal::OutOfRange));
+    assert_eq!(with_starts(missing, wide).check(), Err(Refusal::NoReading));
+    let none_then_second = Term { first: 0, ..term };
+    let with_term = Sheet {
+        terms: vec![none_then_second],
+        ..sheet.clone()
+    };
+    assert_eq!(with_term.check(), Err(Refusal::OutOfRange));
+    let crowded = Sheet {
+        starts: vec![start; 9],
+        ..sheet
+    };
+    assert_eq!(crowded.check(), Err(Refusal::OutOfRange));
+}
