@@ -3,20 +3,14 @@ use Prim.Native.Nat.{ℕ, suc, _+_, _≤_, _<_}
 use mathlib.Core.Path.{_≡_, refl, sym, ap, _∙_}
 use mathlib.Core.List.{List, [], _∷_, _++_}
 use mathlib.Core.Logic.{⊎-elim}
-use native.Mathlib.Nat.{add-zero, zero-add}
+use native.Mathlib.Nat.{zero-add}
 use native.Mathlib.Numerals.{add-one}
 use native.Mathlib.Omega.{arith}
-use lib.ListN.{length, take, drop, set, length-append, take-append-drop, drop-of-length-le}
+use lib.ListN.{length, take, drop, length-append, take-append-drop, drop-of-length-le}
 use lib.Seq.{sets, set-out, sets-eq, length-sets, take-all, length-take-le, drop-length}
 use Rattle.model.proofs.Ranges.{before-or-past}
+use Rattle.model.proofs.Stores.{sets-append}
 use Rattle.answer.specs.Text.{Put, Printed, Countable}
-
-sets-append : (l : List ℕ) (i : ℕ) (x y : List ℕ) → sets l i (x ++ y) ≡ sets (sets l i x) (i + length x) y
-sets-append l i [] y = rw (add-zero i)
-sets-append l i (a ∷ x) y = sets-append (set l i a) (suc i) x y ∙ ap (λ (k : ℕ). sets (sets (set l i a) (suc i) x) k y) places
-  where
-    places : suc i + length x ≡ i + length (a ∷ x)
-    places = omega arith
 
 pub put-nothing : (l : List ℕ) (i : ℕ) → Put l i [] i l
 put-nothing l i = record { counted = omega arith; stored = refl }
