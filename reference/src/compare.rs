@@ -20,41 +20,50 @@ pub fn reference(trial: &Trial, mark: i64) -> Outcome {
     Outcome { text, rows }
 }
 
-/// The proved planner's outcome; where it is not linked, there is none.
+/// The bytes that suffice for every answer: c/planner.h, PLANNER_TEXT_LENGTH.
+pub const MOST_TEXT: usize = 262_144;
+
+/// The proved planner's answer to a sheet, its rows and its text into the buffers lent: the text's
+/// length. Where the planner is not linked, there is none.
 #[cfg(planner_linked)]
-pub fn proved(trial: &Trial, mark: i64) -> Option<Outcome> {
-    /// Bytes for every answer: c/planner.h, PLANNER_TEXT_LENGTH.
-    const MOST_TEXT: usize = 262_144;
-    unsafe extern "C" {
-        fn planner_answer(
-            sheet: *const u8,
-            sheet_len: usize,
-            rows: *mut i64,
-            rows_len: usize,
-            text: *mut u8,
-            text_len: usize,
-        ) -> usize;
+pub fn planner_answer(sheet: &[u8], rows: &mut [i64], text: &mut [u8]) -> Option<usize> {
+    mod c {
+        unsafe extern "C" {
+            pub fn planner_answer(
+                sheet: *const u8,
+                sheet_length: usize,
+                rows: *mut i64,
+                rows_length: usize,
+                text: *mut u8,
+                text_length: usize,
+            ) -> usize;
+        }
     }
-    let mut rows = vec![mark; trial.places];
-    let mut text = vec![0; MOST_TEXT];
     // SAFETY: each pointer is that of a live slice of the length beside it, and no two overlap.
-    let written = unsafe {
-        planner_answer(
-            trial.sheet.as_ptr(),
-            trial.sheet.len(),
+    Some(unsafe {
+        c::planner_answer(
+            sheet.as_ptr(),
+            sheet.len(),
             rows.as_mut_ptr(),
             rows.len(),
             text.as_mut_ptr(),
             text.len(),
         )
-    };
-    text.truncate(written);
-    Some(Outcome { text, rows })
+    })
 }
 
 #[cfg(not(planner_linked))]
-pub fn proved(_trial: &Trial, _mark: i64) -> Option<Outcome> {
+pub fn planner_answer(_sheet: &[u8], _rows: &mut [i64], _text: &mut [u8]) -> Option<usize> {
     None
+}
+
+/// The proved planner's outcome, its buffer filled with `mark` before; none where it is not linked.
+pub fn proved(trial: &Trial, mark: i64) -> Option<Outcome> {
+    let mut rows = vec![mark; trial.places];
+    let mut text = vec![0; MOST_TEXT];
+    let length = planner_answer(&trial.sheet, &mut rows, &mut text)?;
+    text.truncate(length);
+    Some(Outcome { text, rows })
 }
 
 /// How many trials ended with each result, 0 to 8.

@@ -171,6 +171,11 @@ fn scale(sheet: &Sheet) -> u64 {
 
 /// The longest step whose ratio at the scale is at most `wanted`; 1 where there is none.
 fn longest_step(sheet: &Sheet, scale: u64, wanted: u64) -> i64 {
+    longest_step_that(sheet, |trial| ratio(trial, scale) <= wanted)
+}
+
+/// The longest step that the sheet fits with, as with every shorter one; 1 where there is none.
+pub fn longest_step_that(sheet: &Sheet, fits: impl Fn(&Sheet) -> bool) -> i64 {
     let (mut low, mut high) = STEP.into_inner();
     while low < high {
         let middle = (low + high + 1) / 2;
@@ -179,7 +184,7 @@ fn longest_step(sheet: &Sheet, scale: u64, wanted: u64) -> i64 {
             step,
             ..sheet.clone()
         };
-        if ratio(&trial, scale) <= wanted {
+        if fits(&trial) {
             low = middle;
         } else {
             high = middle - 1;

@@ -3,6 +3,7 @@
 
 pub mod answer;
 pub mod compare;
+pub mod cost;
 pub mod explore;
 pub mod generate;
 pub mod passage;

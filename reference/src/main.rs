@@ -1,12 +1,13 @@
 //! `reference`: reads one sheet from standard input and prints its answer.
-//! Its other commands make random sheets and compare the proved planner with this program.
+//! Its other commands make random sheets, and compare and time the proved planner and this program.
 
 use reference::answer::answer;
-use reference::compare::{LINKED, Outcome, Tally, both};
+use reference::compare::{Ending, LINKED, Outcome, Tally, both};
+use reference::cost::{Variant, degrees, products, variants};
 use reference::explore::Explorer;
-use reference::generate::{Trial, Trials};
-use reference::sheet::{MOST_BYTES, MOST_QUANTITIES, STEPS};
-use reference::timing::side_by_side;
+use reference::generate::{Trial, Trials, text};
+use reference::sheet::{MOST_BYTES, MOST_PLACES, read};
+use reference::timing::{Times, side_by_side};
 use std::env;
 use std::io::{self, BufWriter, Read, Write};
 use std::process::ExitCode;
@@ -18,6 +19,7 @@ reference generate SEED COUNT  prints random sheets, each after a line `bytes=B 
 reference compare SEED COUNT   runs random sheets through the proved planner and this program
 reference explore SEED TIME    goes on for TIME seconds, altering sheets that ended in a new way
 reference time ROUNDS FILE..   times both programs on each sheet, turn and turn about
+reference cost ROUNDS FILE     times both as a sheet's steps, terms and degree vary, one at a time
 ";
 
 fn main() -> io::Result<ExitCode> {
@@ -26,14 +28,17 @@ fn main() -> io::Result<ExitCode> {
     match (arguments.first().map(String::as_str), numbers.as_deref()) {
         (None, _) => answer_sheet(),
         (Some("time"), _) if arguments.len() > 2 => time(&arguments[1], &arguments[2..]),
+        (Some("cost"), _) if arguments.len() == 3 => cost(&arguments[1], &arguments[2]),
         (Some("generate"), Some(&[seed, count])) => generate(seed, count as usize),
         (Some("compare"), Some(&[seed, count])) => compare(seed, count as usize),
         (Some("explore"), Some(&[seed, seconds])) => explore(seed, Duration::from_secs(seconds)),
-        _ => {
-            eprint!("{USAGE}");
-            Ok(ExitCode::from(2))
-        }
+        _ => usage(),
     }
+}
+
+fn usage() -> io::Result<ExitCode> {
+    eprint!("{USAGE}");
+    Ok(ExitCode::from(2))
 }
 
 /// Reads no more than it takes to see that a sheet is too long.
@@ -41,7 +46,7 @@ fn answer_sheet() -> io::Result<ExitCode> {
     let mut sheet = Vec::with_capacity(MOST_BYTES + 1);
     let most = MOST_BYTES as u64 + 1;
     io::stdin().take(most).read_to_end(&mut sheet)?;
-    let mut rows = vec![0; *STEPS.end() as usize * (2 * MOST_QUANTITIES + 1)];
+    let mut rows = vec![0; MOST_PLACES];
     io::stdout().write_all(answer(&sheet, &mut rows).as_bytes())?;
     Ok(ExitCode::SUCCESS)
 }
@@ -96,29 +101,78 @@ fn explore(seed: u64, time: Duration) -> io::Result<ExitCode> {
 }
 
 fn time(rounds: &str, files: &[String]) -> io::Result<ExitCode> {
-    let Ok(rounds @ 1..) = rounds.parse::<usize>() else {
-        eprint!("{USAGE}");
-        return Ok(ExitCode::from(2));
+    let Ok(rounds @ 1..) = rounds.parse() else {
+        return usage();
     };
-    println!("microseconds (least, median of {rounds}): plain Rust, proved");
+    println!("microseconds (least, median of {rounds}): plain Rust; proved");
     for file in files {
+        let times = side_by_side(&std::fs::read(file)?, rounds);
+        print_times(file, times, |time| {
+            let (least, median) = (micro(time.least), micro(time.median));
+            format!("{least:.1}, {median:.1}")
+        });
+    }
+    Ok(ExitCode::SUCCESS)
+}
+
+fn cost(rounds: &str, file: &str) -> io::Result<ExitCode> {
+    let Ok(rounds @ 1..) = rounds.parse() else {
+        return usage();
+    };
+    let Ok(sheet) = read(&std::fs::read(file)?) else {
+        eprintln!("{file}: not a sheet to vary");
+        return Ok(ExitCode::FAILURE);
+    };
+    println!("microseconds (least of {rounds}), nanoseconds a product: plain Rust; proved");
+    for Variant { varied, sheet } in variants(&sheet) {
         let trial = Trial {
-            sheet: std::fs::read(file)?,
-            places: *STEPS.end() as usize * (2 * MOST_QUANTITIES + 1),
+            sheet: text(&sheet),
+            places: sheet.places(),
         };
-        let (ours, theirs) = side_by_side(&trial, rounds);
-        let micro = |t: Duration| t.as_nanos() as f64 / 1000.0;
-        print!(
-            "{file}: {:.1}, {:.1}",
-            micro(ours.least),
-            micro(ours.median)
-        );
-        match theirs {
-            Some(t) => println!("; {:.1}, {:.1}", micro(t.least), micro(t.median)),
-            None => println!("; not linked"),
+        match both(&trial, 0) {
+            Ok(outcome) if outcome.ending().result == 0 => {
+                let degrees = degrees(&sheet, &outcome.rows);
+                let times = side_by_side(&trial.sheet, rounds);
+                print_cost(&varied, &degrees, products(&sheet, &degrees), times);
+            }
+            Ok(outcome) => {
+                let Ending { result, at, .. } = outcome.ending();
+                eprintln!("{file} with {varied} is refused: result={result} at={at}");
+                return Ok(ExitCode::FAILURE);
+            }
+            Err(outcomes) => return report(&trial, &outcomes),
         }
     }
     Ok(ExitCode::SUCCESS)
+}
+
+/// A line of what a varied sheet costs. Its rows have one degree, or some from the least to the most.
+fn print_cost(varied: &str, degrees: &[usize], products: usize, times: (Times, Option<Times>)) {
+    let least = degrees.iter().min().unwrap_or(&0);
+    let most = degrees.iter().max().unwrap_or(&0);
+    let degree = if least == most {
+        format!("{least}")
+    } else {
+        format!("{least} to {most}")
+    };
+    print_times(&format!("{varied}, degree {degree}"), times, |time| {
+        let least = micro(time.least);
+        format!("{least:.1}, {:.2}", 1000.0 * least / products as f64)
+    });
+}
+
+fn micro(time: Duration) -> f64 {
+    time.as_nanos() as f64 / 1000.0
+}
+
+/// A line of both programs' times, each as `shown`.
+fn print_times(
+    what: &str,
+    (ours, theirs): (Times, Option<Times>),
+    shown: impl Fn(Times) -> String,
+) {
+    let theirs = theirs.map_or_else(|| "not linked".to_string(), &shown);
+    println!("{what}: {}; {theirs}", shown(ours));
 }
 
 fn summarise(tally: &Tally, seed: u64) {

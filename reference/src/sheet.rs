@@ -21,6 +21,9 @@ pub const RADIUS: RangeInclusive<i64> = 0..=LIMIT;
 pub const TERMS: RangeInclusive<i64> = 0..=32;
 pub const COEF: RangeInclusive<i64> = -(1 << 28)..=1 << 28;
 
+/// The places that suffice for every sheet's rows.
+pub const MOST_PLACES: usize = *STEPS.end() as usize * (2 * MOST_QUANTITIES + 1);
+
 /// Why a sheet or a passage is refused, by document 01's numbers.
 #[derive(Clone, Copy, Debug, PartialEq, Eq)]
 pub enum Refusal {

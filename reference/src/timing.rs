@@ -1,7 +1,8 @@
 //! The two programs timed side by side: the same sheets, in one process, turn and turn about.
 
-use crate::compare::{proved, reference};
-use crate::generate::Trial;
+use crate::answer::answer;
+use crate::compare::{LINKED, MOST_TEXT, planner_answer};
+use crate::sheet::MOST_PLACES;
 use std::hint::black_box;
 use std::time::{Duration, Instant};
 
@@ -26,18 +27,19 @@ fn timed<T>(work: impl FnOnce() -> T) -> Duration {
     begun.elapsed()
 }
 
-/// Times of this program and, where it is linked, of the proved planner. Each round runs both once; the buffers are
-/// made anew, which both pay alike.
-pub fn side_by_side(trial: &Trial, rounds: usize) -> (Times, Option<Times>) {
+/// Times of this program and, where it is linked, of the proved planner. Each round runs both once.
+/// The buffers are made before and lent to every run, so what is timed is the answering; the text
+/// that this program makes for itself is part of that.
+pub fn side_by_side(sheet: &[u8], rounds: usize) -> (Times, Option<Times>) {
+    let mut rows = vec![0; MOST_PLACES];
+    let mut text = vec![0; MOST_TEXT];
     let mut ours = Vec::with_capacity(rounds);
     let mut theirs = Vec::with_capacity(rounds);
     for _ in 0..rounds {
-        ours.push(timed(|| reference(black_box(trial), 0)));
-        let begun = Instant::now();
-        if black_box(proved(black_box(trial), 0)).is_some() {
-            theirs.push(begun.elapsed());
-        }
+        ours.push(timed(|| answer(black_box(sheet), &mut rows)));
+        theirs.push(timed(|| {
+            planner_answer(black_box(sheet), &mut rows, &mut text)
+        }));
     }
-    let theirs = (!theirs.is_empty()).then(|| times(theirs));
-    (times(ours), theirs)
+    (times(ours), LINKED.then(|| times(theirs)))
 }
