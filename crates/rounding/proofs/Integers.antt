@@ -4,7 +4,7 @@ use Prim.Native.Nat.{ℕ, zero, suc, _+_, _*_, _-_, _≤_, _<_}
 use mathlib.Core.Path.{_≡_, refl, sym, ap, _∙_, subst}
 use mathlib.Core.Bool.{Bool, true, false, not, cond}
 use mathlib.Core.Logic.{_⊎_, inl, inr, ⊎-elim}
-use native.Mathlib.Nat.{add-assoc, add-comm, add-left-comm, mul-assoc, mul-comm, mul-left-comm, mul-add, add-mul, le-refl, mul-zero, zero-mul}
+use native.Mathlib.Nat.{add-assoc, add-comm, add-left-comm, mul-assoc, mul-comm, mul-left-comm, mul-add, add-mul, le-refl, mul-zero, zero-mul, mul-le-mul-left, mul-lt-mul-of-pos-right}
 use native.Mathlib.Omega.{arith}
 use lib.Dec.{T, ltb, leb, ltb→lt, nltb→le, leb→le, le→leb}
 use lib.IntN.{ℤ, pos, negsuc, sucℤ, predℤ, negℤ, natAbs, subℕ, _+ℤ_, _-ℤ_, _*ℤ_}
@@ -73,6 +73,12 @@ mul-left-commℤ a b c = sym (mul-assocℤ a b c) ∙ ap (λ (z : ℤ). z *ℤ c
 pub ruleset ringℤ = (+ℤ-assoc, +ℤ-comm, +ℤ-left-comm, mul-assocℤ, *ℤ-comm, mul-left-commℤ, add-mulℤ, mul-addℤ, neg-mulℤ, mul-negℤ, negℤ-+ℤ, negℤ-negℤ)
 
 pub ruleset ringℕ = (add-assoc, add-comm, add-left-comm, mul-assoc, mul-comm, mul-left-comm, add-mul, mul-add)
+
+pub mul-lt : {m n a b : ℕ} → m < a → n < b → m * n < a * b
+mul-lt {m} {n} {a} {b} h k =
+    let some : 0 < b = omega arith in
+    let below : n ≤ b = omega arith in
+    omega (arith, mul-le-mul-left m below, mul-lt-mul-of-pos-right h some)
 
 pub minus-plus : (a b : ℤ) → a ≡ (a -ℤ b) +ℤ b
 minus-plus a b = sym (-ℤ-+ℤ-cancel a b)

@@ -30,6 +30,10 @@ abs-of-fits {w} {z = negsuc n} f = f .sfits
 pub sign-test : {w : Width} {b : Bool} {n : ℤ} → SFits w n → ltZ (toZ w (ofZ w n)) (pos 0) ≡ b → ltZ n (pos 0) ≡ b
 sign-test f h = rw (toZ-ofZ f) at h
 
+-- a magnitude, of the number itself and not of its bits
+pub magnitude-is : {w : Width} {n : ℤ} {m : ℕ} → SFits w n → m ≡ natAbs (toZ w (ofZ w n)) → m ≡ natAbs n
+magnitude-is f e = rw (toZ-ofZ f) at e
+
 pub negative-abs : (n : ℤ) → ltZ n (pos 0) ≡ true → 1 ≤ natAbs n
 negative-abs (pos n) t = absurd (omega (arith, ltb-true n 0 t))
 negative-abs (negsuc k) t = omega arith

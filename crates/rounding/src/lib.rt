@@ -1,7 +1,7 @@
 // Document 01, 'One rounded step': the two roundings, and the magnitude that they work on.
 ghost use mathlib.Core.Path.{_≡_};
-ghost use Prim.Native.Nat.{_<_, _≤_, _^_};
-ghost use lib.IntN.{pos, negℤ, natAbs};
+ghost use Prim.Native.Nat.{_+_, _*_, _<_, _≤_, _^_};
+ghost use lib.IntN.{pos, negℤ, natAbs, _*ℤ_};
 ghost use Rattle.rounding.specs.Rounding as rounding;
 
 // |n|, which for the least i64 is one more than the largest.
@@ -29,6 +29,17 @@ fn negated(m: u64) -> i64
     }
 }
 
+// m × n of two numbers that fit in 32 bits: said so, the compiler can form two such products at a time.
+pub fn product(m: u64, n: u64) -> u64
+    requires { ⌜ m < 2 ^ 32 ⌝ }
+    requires { ⌜ n < 2 ^ 32 ⌝ }
+    ensures { λ r. ⌜ r ≡ m * n ⌝ }
+{
+    let short = m as u32;
+    let other = n as u32;
+    short as u64 * other as u64
+}
+
 // up(n, d): the least whole number not below n ÷ d.
 pub fn up(n: u64, d: u64) -> u64
     requires { ⌜ 0 < d ⌝ }
@@ -38,18 +49,22 @@ pub fn up(n: u64, d: u64) -> u64
     if n % d == 0 { quotient } else { quotient + 1 }
 }
 
-// The whole number nearest to m ÷ d, a half going up. 2m + d need not fit, so it is the remainder that is looked at.
+// up(n, d) + 1, the radius of what is rounded once more, where 2d - 1 can be added first.
+pub fn up_and_one(n: u64, d: u64) -> u64
+    requires { ⌜ 0 < d ⌝ }
+    requires { ⌜ n + 2 * d < 2 ^ 64 ⌝ }
+    ensures { λ r. ⌜ r ≡ rounding.up n d + 1 ⌝ }
+{
+    (n + (2 * d - 1)) / d
+}
+
+// The whole number nearest to m ÷ d, a half going up.
 fn near_magnitude(m: u64, d: u64) -> u64
     requires { ⌜ 0 < d ⌝ }
+    requires { ⌜ m ≤ 2 ^ 63 ⌝ }
     ensures { λ r. ⌜ r ≡ rounding.nearℕ m d ⌝ }
 {
-    let quotient = m / d;
-    let remainder = m % d;
-    if remainder < d - remainder {
-        quotient
-    } else {
-        quotient + 1
-    }
+    (m + d / 2) / d
 }
 
 // near(n, d): the whole number nearest to n ÷ d, a half going away from zero.
@@ -59,4 +74,21 @@ pub fn near(n: i64, d: u64) -> i64
 {
     let m = near_magnitude(magnitude(n), d);
     if n < 0 { negated(m) } else { m as i64 }
+}
+
+// near(a × b, d), by the product of the magnitudes.
+pub fn near_product(a: i64, b: i64, d: u64) -> i64
+    requires { ⌜ 0 < d ⌝ }
+    requires { ⌜ natAbs a < 2 ^ 31 ⌝ }
+    requires { ⌜ natAbs b < 2 ^ 31 ⌝ }
+    ensures { λ r. ⌜ r ≡ rounding.near (a *ℤ b) d ⌝ }
+{
+    let m = near_magnitude(product(magnitude(a), magnitude(b)), d);
+    let below = a < 0;
+    let other_below = b < 0;
+    if below == other_below {
+        m as i64
+    } else {
+        negated(m)
+    }
 }

@@ -15,9 +15,9 @@ use Rattle.model.specs.Step.{Coefficients, reach, factor, productRadius, produc
 use Rattle.model.specs.declared.Ball.{Ball}
 use Rattle.model.proofs.Reach.{reach-product}
 use Rattle.model.proofs.Shares.{partialProducts}
-use Rattle.model.proofs.WorkingNumbers.{product-fits, products-fit}
+use Rattle.model.proofs.WorkingNumbers.{products-fit}
 use Rattle.taylor.specs.Layout.{quantities, orders, place, tableIn, Small}
-use Rattle.taylor.proofs.Places.{ball-equal, factors-small, reach-in, value-kept}
+use Rattle.taylor.proofs.Places.{ball-equal, factors-small, reach-in, value-kept, covered-at, reach-small}
 
 pub no-products : (table : Coefficients) (k first second : ℕ) → _≡_ {A = Ball} (record { value = pos 0; radius = 0 }) (partialProducts table k first second 0)
 unfolding partialProducts range.sum range.sumℤ
@@ -51,13 +51,19 @@ module _ {k : ℕ} {values : List ℤ} {reaches : List ℕ} (small : Small k val
     unfolding a b place orders
     reaches-kept = rw (opposite-place, reach-in small l h first in-first, reach-in small (k - l) (omega arith) second in-second)
 
-    pub product-covered : natAbs (toZ w64 (ofZ w64 (getD values ((first - 1) * 29 + l) (pos 0))) *ℤ toZ w64 (ofZ w64 (getD values ((second - 1) * 29 + k - l) (pos 0)))) ≤ getD reaches ((first - 1) * 29 + l) 0 * getD reaches ((second - 1) * 29 + k - l) 0
-    product-covered = rw (product-kept, reaches-kept) (omega (arith, reach-product a b))
+    pub covered : (natAbs (toZ w64 (ofZ w64 (getD values ((first - 1) * 29 + l) (pos 0)))) ≤ getD reaches ((first - 1) * 29 + l) 0) × (natAbs (toZ w64 (ofZ w64 (getD values ((second - 1) * 29 + k - l) (pos 0)))) ≤ getD reaches ((second - 1) * 29 + k - l) 0)
+    unfolding place orders
+    covered = (
+      covered-at small l h first in-first,
+      rw opposite-place (covered-at small (k - l) (omega arith) second in-second),
+    )
 
-    pub reaches-fit : getD reaches ((first - 1) * 29 + l) 0 * getD reaches ((second - 1) * 29 + k - l) 0 ≤ 2 ^ 58
-    unfolding a b
-    reaches-fit =
-        rw (reaches-kept, ← reach-product a b) (product-fits (tableIn k values reaches) k (factors-small small) (le-refl most) first second l h)
+    pub reaches-small : (getD reaches ((first - 1) * 29 + l) 0 ≤ most) × (getD reaches ((second - 1) * 29 + k - l) 0 ≤ most)
+    unfolding place orders
+    reaches-small = (
+      reach-small small l h first in-first,
+      rw opposite-place (reach-small small (k - l) (omega arith) second in-second),
+    )
 
     radius-kept : getD reaches ((first - 1) * 29 + l) 0 * getD reaches ((second - 1) * 29 + k - l) 0 - natAbs (toZ w64 (ofZ w64 (getD values ((first - 1) * 29 + l) (pos 0))) *ℤ toZ w64 (ofZ w64 (getD values ((second - 1) * 29 + k - l) (pos 0)))) ≡ productRadius a b
     radius-kept = rw (product-kept, reaches-kept) (omega (arith, reach-product a b))

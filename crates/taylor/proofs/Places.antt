@@ -5,7 +5,7 @@ use mathlib.Core.Logic.{⊎-elim}
 use mathlib.Core.Path.{_≡_}
 use native.Mathlib.Numerals.{unary-clauses}
 use native.Mathlib.Omega.{arith}
-use lib.IntN.{ℤ, pos}
+use lib.IntN.{ℤ, pos, natAbs}
 use lib.ListN.{getD}
 use mir.Syntax.{w64}
 use mir.Val.{toZ, ofZ}
@@ -82,3 +82,9 @@ module _ {k : ℕ} {values : List ℤ} {reaches : List ℕ} (small : Small k val
     pub value-kept : toZ w64 (ofZ w64 (getD values (place (number - 1) order) (pos 0))) ≡ factor (tableIn k values reaches) order number .value
     unfolding most
     value-kept = rw (← value-in) (toZ-ofZ (sfits-abs (omega (arith, value-le-reach (factor (tableIn k values reaches) order number), factors-small order h number))))
+
+    pub reach-small : getD reaches (place (number - 1) order) 0 ≤ most
+    reach-small = rw (← reach-in) (factors-small order h number)
+
+    pub covered-at : natAbs (toZ w64 (ofZ w64 (getD values (place (number - 1) order) (pos 0)))) ≤ getD reaches (place (number - 1) order) 0
+    covered-at = rw (value-kept, ← reach-in) (value-le-reach (factor (tableIn k values reaches) order number))

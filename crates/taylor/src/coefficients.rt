@@ -15,23 +15,25 @@ use crate::degree::SCALE;
 use model::Ball;
 use rounding::magnitude;
 use rounding::near;
-use rounding::up;
+use rounding::near_product;
+use rounding::product;
+use rounding::up_and_one;
 
 // Orders 0 to 28 of one quantity.
 const ORDERS: usize = 29;
 
-// S and F with one product more, of two coefficients whose reaches multiply to `reach`.
-fn with_product(sum: Ball, a: i64, b: i64, reach: u64) -> Ball
-    requires { ⌜ natAbs (a *ℤ b) ≤ reach ⌝ }
-    requires { ⌜ reach ≤ 2 ^ 58 ⌝ }
+// S and F with the product of a and b more: `reach` and `other` are |c| + e of the two.
+fn with_product(sum: Ball, a: i64, b: i64, reach: u64, other: u64) -> Ball
+    requires { ⌜ (natAbs a ≤ reach) × (natAbs b ≤ other) ⌝ }
+    requires { ⌜ (reach ≤ most) × (other ≤ most) ⌝ }
     requires { ⌜ rule.reach sum ≤ 2 ^ 40 ⌝ }
     ensures { λ r. ⌜ r .value ≡ sum .value +ℤ round.near (a *ℤ b) scale ⌝ }
-    ensures { λ r. ⌜ r .radius ≡ sum .radius + (round.up (reach - natAbs (a *ℤ b)) scale + 1) ⌝ }
+    ensures { λ r. ⌜ r .radius ≡ sum .radius + (round.up (reach * other - natAbs (a *ℤ b)) scale + 1) ⌝ }
 {
-    let product = a * b;
+    let error = product(reach, other) - product(magnitude(a), magnitude(b));
     Ball {
-        value: sum.value + near(product, SCALE),
-        radius: sum.radius + (up(reach - magnitude(product), SCALE) + 1),
+        value: sum.value + near_product(a, b, SCALE),
+        radius: sum.radius + up_and_one(error, SCALE),
     }
 }
 
@@ -61,7 +63,7 @@ fn convolution(
         let opposite = b - l;
         let c = values[at];
         let other = values[opposite];
-        sum = with_product(sum, c, other, reaches[at] * reaches[opposite]);
+        sum = with_product(sum, c, other, reaches[at], reaches[opposite]);
         l += 1;
     }
     sum
@@ -122,7 +124,7 @@ fn times(a: i64, ball: Ball) -> Ball
 {
     Ball {
         value: near(a * ball.value, SCALE),
-        radius: up(magnitude(a) * ball.radius, SCALE) + 1,
+        radius: up_and_one(magnitude(a) * ball.radius, SCALE),
     }
 }
 
@@ -211,7 +213,7 @@ fn close_coefficient(
     let c = near(sum, order);
     let at = i * ORDERS + k + 1;
     values[at] = c;
-    reaches[at] = magnitude(c) + up(radius, order) + 1;
+    reaches[at] = magnitude(c) + up_and_one(radius, order);
 }
 
 // Order k + 1 of every quantity, from the sums of v and g of each.

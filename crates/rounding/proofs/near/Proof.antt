@@ -10,7 +10,7 @@ use mir.Syntax.{w64}
 use mir.Val.{SFits, toZ, ofZ}
 use mir.Facts.{toZ-ofZ, toZ-pos}
 use Rattle.rounding.specs.Rounding.{near, nearℕ}
-use Rattle.rounding.proofs.Machine.{abs-of-fits, not-negative, sign-test}
+use Rattle.rounding.proofs.Machine.{abs-of-fits, not-negative, sign-test, magnitude-is}
 use Rattle.rounding.proofs.Roundings.{nearℕ-le, near-negative, near-natural}
 use borrow.Author.Needs.{needs}
 use Rattle.rounding.proofs.near.Statement.{statement}
@@ -28,11 +28,15 @@ natural-result n {d} {m} f t h e =
 rounded : {n : ℤ} {a m : ℕ} (d : ℕ) → SFits w64 n → a ≡ natAbs (toZ w64 (ofZ w64 n)) → m ≡ nearℕ a d → m ≡ nearℕ (natAbs n) d
 rounded d f e r = rw (e, toZ-ofZ f) at r
 
+magnitude-small : {n : ℤ} {m : ℕ} → SFits w64 n → m ≡ natAbs (toZ w64 (ofZ w64 n)) → m ≤ 2 ^ 63
+magnitude-small f e = omega (arith, magnitude-is f e, abs-of-fits f)
+
 magnitude-requires : tie.Need-magnitude-requires
 magnitude-requires c κs = search needs
 
 near-magnitude-requires : tie.Need-near-magnitude-requires
-near-magnitude-requires c κs = search needs
+near-magnitude-requires c κs =
+    (c .before .pre, magnitude-small (c .before .fits .n) (c .magnitude .ensures))
 
 negated-requires : tie.Need-negated-requires
 negated-requires c κs =

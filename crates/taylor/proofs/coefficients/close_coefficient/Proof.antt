@@ -2,7 +2,7 @@
 -- Assumes nothing.
 use Prim.Native.Nat.{ℕ, suc, _+_, _*_, _^_, _<_}
 use mathlib.Core.List.{List}
-use mathlib.Core.Path.{_≡_, sym}
+use mathlib.Core.Path.{_≡_, sym, ap, _∙_}
 use native.Mathlib.Nat.{le-mul-of-pos-right}
 use native.Mathlib.Numerals.{add-one}
 use native.Mathlib.Omega.{arith}
@@ -12,7 +12,7 @@ use mir.Syntax.{w64}
 use mir.Val.{SFits, toZ, ofZ}
 use mir.Facts.{toZ-ofZ}
 use Rattle.rounding.specs.Rounding.{near, up}
-use Rattle.rounding.proofs.Machine.{abs-of-fits}
+use Rattle.rounding.proofs.Machine.{abs-of-fits, magnitude-is}
 use Rattle.rounding.proofs.Roundings.{up-is-least}
 use Rattle.taylor.specs.Layout.{quantities, orders, place, closed, Table, Written}
 use Rattle.taylor.proofs.Entries.{entry-written}
@@ -20,16 +20,16 @@ use borrow.Author.Needs.{needs}
 use Rattle.taylor.proofs.coefficients.close_coefficient.Statement.{statement}
 use Rattle.taylor.proofs.coefficients.close_coefficient.Tie as tie
 
-reach-fits : (c : ℤ) (radius k : ℕ) {m u : ℕ} → SFits w64 c → m ≡ natAbs (toZ w64 (ofZ w64 c)) → u ≡ up radius (k + 1) → radius < 2 ^ 62 → m + u + 1 < 2 ^ 64
+reach-fits : (c : ℤ) (radius k : ℕ) {m u : ℕ} → SFits w64 c → m ≡ natAbs (toZ w64 (ofZ w64 c)) → u ≡ up radius (k + 1) + 1 → radius < 2 ^ 62 → m + u < 2 ^ 64
 reach-fits c radius k f magnitude upper small =
-    omega (arith, rw (toZ-ofZ f) at magnitude, abs-of-fits f, up-is-least radius positive radius (le-mul-of-pos-right radius positive))
+    omega (arith, magnitude-is f magnitude, upper, abs-of-fits f, up-is-least radius positive radius (le-mul-of-pos-right radius positive))
   where
     positive : 0 < k + 1
     positive = omega arith
 
 written : {values : List ℤ} {reaches : List ℕ} {sum c : ℤ} {i k : ℕ} (radius : ℕ) {m u : ℕ} → Table values reaches → i < quantities → k < 28 → SFits w64 sum → SFits w64 c →
-    c ≡ near (toZ w64 (ofZ w64 sum)) (k + 1) → m ≡ natAbs (toZ w64 (ofZ w64 c)) → u ≡ up radius (k + 1) →
-    Written (suc k) i (closed k (record { value = sum; radius = radius })) values reaches (set values (i * 29 + k + 1) (toZ w64 (ofZ w64 c))) (set reaches (i * 29 + k + 1) (m + u + 1))
+    c ≡ near (toZ w64 (ofZ w64 sum)) (k + 1) → m ≡ natAbs (toZ w64 (ofZ w64 c)) → u ≡ up radius (k + 1) + 1 →
+    Written (suc k) i (closed k (record { value = sum; radius = radius })) values reaches (set values (i * 29 + k + 1) (toZ w64 (ofZ w64 c))) (set reaches (i * 29 + k + 1) (m + u))
 unfolding orders place closed
 written {sum} {c} {i} {k} radius {m} {u} table quantity order f g value magnitude upper =
     rw (toZ-ofZ g, rounded) (entry-written table i (suc k) quantity (omega arith) c (up radius (suc k) + 1) (omega arith) reached)
@@ -37,8 +37,8 @@ written {sum} {c} {i} {k} radius {m} {u} table quantity order f g value magnitud
     rounded : near sum (suc k) ≡ c
     rounded = sym (rw (toZ-ofZ f, add-one) at value)
 
-    reached : m + u + 1 ≡ natAbs c + (up radius (suc k) + 1)
-    reached = omega (arith, rw (toZ-ofZ g) at magnitude, rw add-one at upper)
+    reached : m + u ≡ natAbs c + (up radius (suc k) + 1)
+    reached = omega (arith, magnitude-is g magnitude, upper ∙ ap (λ (d : ℕ). up radius d + 1) (add-one k))
 
 add-order : tie.Need-add-order
 add-order c = search needs
@@ -69,19 +69,16 @@ element-set-from-c c = omega arith
 magnitude-requires : tie.Need-magnitude-requires
 magnitude-requires c κs = search needs
 
-up-requires : tie.Need-up-requires
-up-requires c κs = search needs
+up-and-one-requires : tie.Need-up-and-one-requires
+up-and-one-requires c κs = search needs
 
-written-fits : (c : tie.After-up) → c .before .magnitude .result + c .up .result + 1 < 2 ^ 64
+written-fits : (c : tie.After-up-and-one) → c .before .magnitude .result + c .up-and-one .result < 2 ^ 64
 written-fits c =
     let a = c .before .before .before in
-    reach-fits (c .before .before .near .result) (a .args .radius) (a .args .k) (record { sfits = c .before .before .near .ok }) (c .before .magnitude .ensures) (c .up .ensures) (omega (arith, a .pre .1 .0))
+    reach-fits (c .before .before .near .result) (a .args .radius) (a .args .k) (record { sfits = c .before .before .near .ok }) (c .before .magnitude .ensures) (c .up-and-one .ensures) (omega (arith, a .pre .1 .0))
 
 add-reaches : tie.Need-add-reaches
 add-reaches c = omega (arith, written-fits c)
-
-add-reaches-2 : tie.Need-add-reaches-2
-add-reaches-2 c = omega (arith, written-fits c)
 
 mul-reaches : tie.Need-mul-reaches
 unfolding quantities
@@ -94,7 +91,7 @@ element-write-reaches c = omega arith
 returns : tie.Need-returns
 returns c =
     let a = c .before .before .before in
-    written (a .args .radius) (a .pre .1 .1) (a .pre .0 .0) (a .pre .0 .1) (a .fits .sum) (record { sfits = c .before .before .near .ok }) (c .before .before .near .ensures) (c .before .magnitude .ensures) (c .up .ensures)
+    written (a .args .radius) (a .pre .1 .1) (a .pre .0 .0) (a .pre .0 .1) (a .fits .sum) (record { sfits = c .before .before .near .ok }) (c .before .before .near .ensures) (c .before .magnitude .ensures) (c .up-and-one .ensures)
 
 pub close-coefficient-spec : {M : Type 1} → statement M
 close-coefficient-spec =
@@ -108,9 +105,8 @@ close-coefficient-spec =
     mul-c
     element-set-from-c
     magnitude-requires
-    up-requires
+    up-and-one-requires
     add-reaches
-    add-reaches-2
     mul-reaches
     element-write-reaches
     returns)

@@ -9,7 +9,7 @@ use Rattle.model.specs.Step.{Coefficients, products}
 use Rattle.model.specs.declared.Ball.{Ball}
 use Rattle.model.proofs.Shares.{partialProducts}
 use Rattle.taylor.specs.Layout.{quantities, tableIn}
-use Rattle.taylor.proofs.Convolution.{no-products, all-products, sum-fits, product-covered, reaches-fit, one-product-more}
+use Rattle.taylor.proofs.Convolution.{no-products, all-products, sum-fits, covered, reaches-small, one-product-more}
 use Rattle.taylor.proofs.coefficients.convolution.Statement.{statement}
 use Rattle.taylor.proofs.coefficients.convolution.Tie as tie
 
@@ -86,19 +86,14 @@ element-copy-out-with-product-2 : tie.Need-element-copy-out-with-product-2 Inv-l
 unfolding quantities
 element-copy-out-with-product-2 c = omega (arith, c .before .before .before .before .before .pre .1)
 
-mul-with-product-3 : tie.Need-mul-with-product-3 Inv-loop μ-loop
-mul-with-product-3 c =
-    let a = c .before .before .before .before .before .before in
-    omega (arith, reaches-fit (a .pre .0) (a .args .first) (a .args .second) (a .pre .1 .1 .0) (a .pre .1 .1 .1) (c .before .before .before .before .before .loop .l) (c .before .before .before .before .loop-test .taken))
-
 with-product-requires : tie.Need-with-product-requires Inv-loop μ-loop
 with-product-requires c κs =
     let a = c .before .before .before .before .before .before in
     let turn = c .before .before .before .before .before .loop in
     let test = c .before .before .before .before .loop-test in (
-      product-covered (a .pre .0) (a .args .first) (a .args .second) (a .pre .1 .1 .0) (a .pre .1 .1 .1) (turn .l) (test .taken),
+      covered (a .pre .0) (a .args .first) (a .args .second) (a .pre .1 .1 .0) (a .pre .1 .1 .1) (turn .l) (test .taken),
       (
-        reaches-fit (a .pre .0) (a .args .first) (a .args .second) (a .pre .1 .1 .0) (a .pre .1 .1 .1) (turn .l) (test .taken),
+        reaches-small (a .pre .0) (a .args .first) (a .args .second) (a .pre .1 .1 .0) (a .pre .1 .1 .1) (turn .l) (test .taken),
         sum-fits (a .pre .0) (a .args .first) (a .args .second) (turn .l) (turn .inv .0) (a .pre .1 .0) (turn .inv .1),
       ),
     )
@@ -147,7 +142,6 @@ convolution-spec =
     element-copy-out-with-product
     mul-with-product-2
     element-copy-out-with-product-2
-    mul-with-product-3
     with-product-requires
     add-l
     loop-less

@@ -9,11 +9,10 @@ use mir.Val.{SFits, toZ, ofZ}
 use mir.Facts.{toZ-ofZ}
 use Rattle.rounding.specs.Rounding.{near, up}
 use Rattle.rounding.proofs.Integers.{abs-mul}
-use Rattle.rounding.proofs.Machine.{sfits-abs}
+use Rattle.rounding.proofs.Machine.{sfits-abs, magnitude-is}
 use Rattle.model.specs.Sheet.{scale}
 use Rattle.model.specs.Step.{reach, times}
 use Rattle.model.specs.declared.Ball.{Ball}
-use Rattle.model.proofs.Reach.{up-close, scale-positive}
 use Rattle.taylor.proofs.Places.{ball-equal}
 use borrow.Author.Needs.{needs}
 use Rattle.taylor.proofs.coefficients.times.Statement.{statement}
@@ -45,19 +44,15 @@ near-requires c κs = search needs
 magnitude-requires : tie.Need-magnitude-requires
 magnitude-requires c κs = search needs
 
-mul-up : tie.Need-mul-up
-mul-up c =
+mul-up-and-one : tie.Need-mul-up-and-one
+mul-up-and-one c =
     let a = c .before .before .before .before .before in
     omega (arith, radius-fits (a .args .a) (a .args .ball) (a .pre) (a .fits .a) (record { sfits = c .before .before .before .struct-told .given .0 .1 }) (c .before .magnitude .ensures))
 
-up-requires : tie.Need-up-requires
-up-requires c κs = search needs
-
-add-t8 : tie.Need-add-t8
-unfolding scale
-add-t8 c =
-    let a = c .before .before .before .before .before .before in
-    omega (arith, c .up .ensures, up-close (c .before .before .magnitude .result * a .args .ball .radius) scale-positive, radius-fits (a .args .a) (a .args .ball) (a .pre) (a .fits .a) (record { sfits = c .before .before .before .before .struct-told .given .0 .1 }) (c .before .before .magnitude .ensures))
+up-and-one-requires : tie.Need-up-and-one-requires
+up-and-one-requires c κs =
+    let a = c .before .before .before .before .before in
+    (omega arith, omega (arith, radius-fits (a .args .a) (a .args .ball) (a .pre) (a .fits .a) (record { sfits = c .before .before .before .struct-told .given .0 .1 }) (c .before .magnitude .ensures)))
 
 returns : tie.Need-returns
 unfolding times scale
@@ -65,9 +60,15 @@ returns c =
     let a = c .before .before .before .before .before .before in
     ball-equal
     (toZ-ofZ (record { sfits = c .before .before .before .near .ok }) ∙ value-is (a .args .a) (a .args .ball) (a .pre) (a .fits .a) (record { sfits = c .before .before .before .before .struct-told .given .0 .1 }) (c .before .before .before .near .ensures))
-    (ap (λ (u : ℕ). u + 1) (c .up .ensures ∙ ap (λ (m : ℕ). up (m * a .args .ball .radius) scale) (c .before .before .magnitude .ensures ∙ ap natAbs (toZ-ofZ (a .fits .a)))))
+    (c .up-and-one .ensures ∙ ap (λ (m : ℕ). up (m * a .args .ball .radius) scale + 1) (magnitude-is (a .fits .a) (c .before .before .magnitude .ensures)))
 
 pub times-spec : {M : Type 1} → statement M
 times-spec =
     tie.close
-    (tie.spec mul-near near-requires magnitude-requires mul-up up-requires add-t8 returns)
+    (tie.spec
+    mul-near
+    near-requires
+    magnitude-requires
+    mul-up-and-one
+    up-and-one-requires
+    returns)
