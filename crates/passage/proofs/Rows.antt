@@ -12,7 +12,7 @@ use Rattle.model.specs.Range.{tabulate}
 use Rattle.model.specs.Passage.{width, rowPlaces}
 use Rattle.model.proofs.Ranges.{length-tabulate, map-tabulate}
 use Rattle.model.proofs.Stores.{sets-append}
-use Rattle.taylor.specs.Layout.{ballIn, ballsIn}
+use Rattle.coefficients.specs.Layout.{ballIn, ballsIn}
 
 -- the degree, the values and the radii, stored one after the other
 pub row-stored : (buffer : List ℤ) (at n degree : ℕ) (values : List ℤ) (radii : List ℕ) → sets (sets (set buffer at (pos degree)) (at + 1) (tabulate n (λ i. getD values i (pos 0)))) (at + 1 + n) (tabulate n (λ i. pos (getD radii i 0))) ≡ sets buffer at (rowPlaces (record { degree = degree; balls = ballsIn n values radii }))

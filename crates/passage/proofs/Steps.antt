@@ -17,7 +17,7 @@ use Rattle.model.proofs.Trusted.{all-tolerated, step-taken}
 use Rattle.taylor.specs.declared.step.Balls.{Balls}
 use Rattle.taylor.specs.declared.step.Stepped.{Stepped}
 use Rattle.taylor.specs.declared.step.Advance.the-variants.{Moves, Stops}
-use Rattle.taylor.specs.Layout.{ballIn, ballsIn}
+use Rattle.coefficients.specs.Layout.{ballIn, ballsIn}
 use Rattle.taylor.specs.Step.{StepIs}
 use Rattle.passage.specs.Promise.{stepOf}
 

@@ -2,7 +2,7 @@
 ghost use mathlib.Core.Path.{_≡_};
 ghost use Prim.Native.Nat.{_≤_};
 ghost use Rattle.model.specs.Passage as passage;
-ghost use Rattle.taylor.specs.Layout.{ballsIn, termsIn};
+ghost use Rattle.coefficients.specs.Layout.{ballsIn, termsIn};
 use model::Sheet;
 use model::Start;
 use taylor::Balls;

@@ -8,7 +8,7 @@ ghost use Rattle.model.specs.Range.{tabulate};
 ghost use Rattle.model.specs.Passage as passage;
 ghost use Rattle.model.proofs.Bounds.{TermsInBounds};
 ghost use Rattle.model.proofs.Follow.{Finished};
-ghost use Rattle.taylor.specs.Layout.{quantities, ballsIn, termsIn};
+ghost use Rattle.coefficients.specs.Layout.{quantities, ballsIn, termsIn};
 ghost use Rattle.passage.specs.Promise.{Kept, TrustedRows};
 use crate::layout::starts_of;
 use crate::layout::terms_of;

@@ -1,5 +1,5 @@
 // One step of a passage given as numbers, from any values and radii.
-ghost use Rattle.taylor.specs.Layout.{ballsIn};
+ghost use Rattle.coefficients.specs.Layout.{ballsIn};
 ghost use Rattle.taylor.specs.Step.{StepIs};
 ghost use Rattle.passage.specs.Promise.{stepOf};
 use crate::layout::terms_of;

@@ -19,7 +19,7 @@ use Rattle.model.specs.declared.Term.{Term}
 use Rattle.model.proofs.Ranges.{below}
 use Rattle.model.proofs.Bounds.{TermsInBounds, InBounds, scale-le-greatest}
 use Rattle.model.proofs.Weights.{largest-bounded}
-use Rattle.taylor.specs.Layout.{ballIn, ballsIn}
+use Rattle.coefficients.specs.Layout.{ballIn, ballsIn}
 use Rattle.taylor.specs.Step.{StepIs}
 use Rattle.taylor.specs.declared.step.Balls.{Balls}
 use Rattle.taylor.specs.declared.step.Stepped.{Stepped}

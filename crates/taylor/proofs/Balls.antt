@@ -10,7 +10,7 @@ use Rattle.model.specs.Sheet.{scale}
 use Rattle.model.specs.Step.{no-ball, reach, greatest}
 use Rattle.model.specs.declared.Ball.{Ball}
 use Rattle.model.proofs.Ranges.{below, length-tabulate, getD-tabulate}
-use Rattle.taylor.specs.Layout.{ballsIn, ballIn}
+use Rattle.coefficients.specs.Layout.{ballsIn, ballIn}
 
 pub largest-suc : (n : ℕ) (f : ℕ → ℕ) → largest (suc n) f ≡ max (largest n f) (f n)
 unfolding largest

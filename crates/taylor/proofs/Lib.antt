@@ -1,11 +1,4 @@
 mod Balls
-mod Convolution
-mod Entries
-mod Filled
-mod Filling
-mod Places
-mod Shares
-mod Terms
 mod Tests
 mod StepRow
 mod Answers

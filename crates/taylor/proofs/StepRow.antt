@@ -10,10 +10,10 @@ use Rattle.model.specs.Step.{Coefficients, Row, coefficient, coefficientsTo, gr
 use Rattle.model.specs.declared.Ball.{Ball}
 use Rattle.model.specs.declared.Term.{Term}
 use Rattle.model.proofs.Ranges.{sum-equal, sumℤ-equal, tabulate-equal}
-use Rattle.taylor.specs.Layout.{quantities, ballIn, ballsIn, ballAt, tableIn, startIn, Filled}
+use Rattle.coefficients.specs.Layout.{quantities, ballIn, ballsIn, ballAt, tableIn, startIn, Filled}
 use Rattle.taylor.proofs.Balls.{length-balls}
-use Rattle.taylor.proofs.Filled.{coefficient-filled}
-use Rattle.taylor.proofs.Places.{ball-equal}
+use Rattle.coefficients.proofs.Filled.{coefficient-filled}
+use Rattle.coefficients.proofs.Places.{ball-equal}
 
 -- order 0 of the table is what the step starts from
 pub start-is : (n : ℕ) (start : List ℤ) (radii : List ℕ) (values : List ℤ) (reaches : List ℕ) → ((i : ℕ) → i < n → ballAt values reaches 0 i ≡ ballIn start radii i) → startIn n values reaches ≡ ballsIn n start radii

@@ -6,7 +6,7 @@ use Rattle.model.specs.Step.{Row}
 use Rattle.taylor.specs.declared.step.Balls.{Balls}
 use Rattle.taylor.specs.declared.step.Stepped.{Stepped}
 use Rattle.taylor.specs.declared.step.Advance.the-variants.{Moves, Stops}
-use Rattle.taylor.specs.Layout.{ballsIn}
+use Rattle.coefficients.specs.Layout.{ballsIn}
 
 -- a row: its degree, and its values and radii; a refusal: the same one, and the balls that the step started from
 unfoldable pub StepIs : ℕ → Balls → passage.Advance → Stepped → Type 0

@@ -4,9 +4,8 @@ ghost use Prim.Native.Nat.{_≤_};
 ghost use Rattle.model.specs.Sheet.{most};
 ghost use Rattle.model.specs.Step.{degree, tailAt};
 ghost use Rattle.model.specs.Passage.{«most-ratio»};
+use coefficients::SCALE;
 use rounding::up;
-
-pub const SCALE: u64 = 16777216;
 
 // The degree of a step and its tail.
 pub struct Truncation {

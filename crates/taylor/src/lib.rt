@@ -1,11 +1,6 @@
-// One rounded step of document 01: from values and radii to the next row.
-//
-// The values and radii of up to 8 quantities, and the terms of up to 32, are flat arrays, lent. A table of coefficients
-// has a place for each quantity and order 0 to 28, the orders of one quantity side by side.
-mod coefficients;
+// One rounded step of document 01: its questions, ratio, degree and tail, and from values and radii to the next row.
 mod degree;
 mod ratio;
-mod row;
 mod step;
 
 pub use step::Advance;

@@ -6,8 +6,8 @@ ghost use lib.ListN.{getD};
 ghost use Rattle.model.specs.Sheet.{scale, most};
 ghost use Rattle.model.specs.Range.{largest};
 ghost use Rattle.model.specs.Step as rule;
-ghost use Rattle.taylor.specs.Layout.{ballIn, ballsIn, termsIn, total, «most-total»};
-use crate::degree::SCALE;
+ghost use Rattle.coefficients.specs.Layout.{ballIn, ballsIn, termsIn, total, «most-total»};
+use coefficients::SCALE;
 use rounding::magnitude;
 use rounding::up;
 

@@ -9,14 +9,14 @@ ghost use Rattle.model.specs.Sheet.{most};
 ghost use Rattle.model.specs.Step as rule;
 ghost use Rattle.model.specs.Passage as passage;
 ghost use Rattle.model.proofs.Bounds.{TermsInBounds, InBounds};
-ghost use Rattle.taylor.specs.Layout.{quantities, ballIn, ballsIn, termsIn, Numbered};
+ghost use Rattle.coefficients.specs.Layout.{quantities, ballIn, ballsIn, termsIn, Numbered};
 ghost use Rattle.taylor.specs.Step.{StepIs};
-use crate::coefficients::fill_orders;
-use crate::coefficients::start_orders;
 use crate::degree::truncate;
 use crate::ratio::greatest;
 use crate::ratio::ratio;
-use crate::row::new_row;
+use coefficients::fill_orders;
+use coefficients::new_row;
+use coefficients::start_orders;
 use model::Refusal;
 use rounding::magnitude;
 

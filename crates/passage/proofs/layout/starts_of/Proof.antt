@@ -10,7 +10,7 @@ use Rattle.model.specs.Sheet.{no-quantity}
 use Rattle.model.specs.Passage.{startBall, startsOf}
 use Rattle.model.proofs.Ranges.{tabulate-equal}
 use Rattle.model.proofs.Stores.{Begins, begins-with-none, begins-with-one-more}
-use Rattle.taylor.specs.Layout.{ballIn, ballsIn}
+use Rattle.coefficients.specs.Layout.{ballIn, ballsIn}
 use borrow.Author.Needs.{needs}
 use Rattle.passage.proofs.layout.starts_of.Statement.{statement}
 use Rattle.passage.proofs.layout.starts_of.Tie as tie

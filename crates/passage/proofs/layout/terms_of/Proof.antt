@@ -11,7 +11,7 @@ use Rattle.model.specs.Sheet.{no-term}
 use Rattle.model.specs.Passage.{termsOf}
 use Rattle.model.proofs.Ranges.{tabulate-is}
 use Rattle.model.proofs.Stores.{Begins, begins-with-none, begins-with-one-more}
-use Rattle.taylor.specs.Layout.{termAt, termsIn}
+use Rattle.coefficients.specs.Layout.{termAt, termsIn}
 use Rattle.passage.proofs.layout.terms_of.Statement.{statement}
 use Rattle.passage.proofs.layout.terms_of.Tie as tie
 

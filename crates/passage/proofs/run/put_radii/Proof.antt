@@ -10,7 +10,7 @@ use mir.Facts.{toZ-ofZ}
 use Rattle.rounding.proofs.Machine.{sfits-abs}
 use Rattle.model.specs.Range.{tabulate}
 use Rattle.model.proofs.Stores.{stored-one-more}
-use Rattle.taylor.specs.Layout.{quantities}
+use Rattle.coefficients.specs.Layout.{quantities}
 use Rattle.passage.proofs.run.put_radii.Statement.{statement}
 use Rattle.passage.proofs.run.put_radii.Tie as tie
 

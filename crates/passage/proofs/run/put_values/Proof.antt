@@ -9,7 +9,7 @@ use lib.Seq.{sets, length-sets}
 use mir.Facts.{toZ-ofZ}
 use Rattle.model.specs.Range.{tabulate}
 use Rattle.model.proofs.Stores.{stored-one-more}
-use Rattle.taylor.specs.Layout.{quantities}
+use Rattle.coefficients.specs.Layout.{quantities}
 use Rattle.passage.proofs.run.put_values.Statement.{statement}
 use Rattle.passage.proofs.run.put_values.Tie as tie
 

@@ -5,7 +5,7 @@ use Rattle.model.specs.Passage.{placesNeeded, width}
 use Rattle.model.proofs.SheetBounds.{bounds-of-sheet}
 use Rattle.sheet.specs.Ranges.{outcome}
 use Rattle.sheet.proofs.Verdicts.{refuses-as}
-use Rattle.taylor.specs.Layout.{quantities}
+use Rattle.coefficients.specs.Layout.{quantities}
 use Rattle.passage.proofs.Rows.{rows-fit}
 use Rattle.passage.proofs.Counts.{step-is-its-bits, passed}
 use Rattle.passage.proofs.Kept.{kept-refused, kept-too-few-places, kept-run, promised}

@@ -4,7 +4,7 @@ use Prim.Native.Nat.{_-_}
 use native.Mathlib.Omega.{arith}
 use Rattle.model.specs.Passage.{width}
 use Rattle.model.proofs.Follow.{Underway, underway-at-start, underway-length, room-for-row, moved, finished-by-refusal, finished}
-use Rattle.taylor.specs.Layout.{quantities, ballsIn, termsIn}
+use Rattle.coefficients.specs.Layout.{quantities, ballsIn, termsIn}
 use mir.Syntax.{w64}
 use mir.Val.{toZ}
 use mir.Facts.{toZ-ofZ}

@@ -2,7 +2,7 @@
 use mathlib.Core.Path.{refl}
 use native.Mathlib.Omega.{arith}
 use Rattle.model.specs.Passage.{width}
-use Rattle.taylor.specs.Layout.{quantities}
+use Rattle.coefficients.specs.Layout.{quantities}
 use Rattle.passage.proofs.run.width.Statement.{statement}
 use Rattle.passage.proofs.run.width.Tie as tie
 

@@ -4,7 +4,7 @@ use Rattle.model.proofs.SheetBounds.{bounds-of-sheet}
 use native.Mathlib.Omega.{arith}
 use mathlib.Core.Path.{refl}
 use Rattle.sheet.proofs.Verdicts.{refuses-as}
-use Rattle.taylor.specs.Layout.{quantities}
+use Rattle.coefficients.specs.Layout.{quantities}
 use Rattle.taylor.specs.Step.{StepIs}
 use Rattle.passage.proofs.Counts.{step-is-its-bits, passed}
 use Rattle.passage.proofs.Steps.{step-of-refused, step-of-passing}

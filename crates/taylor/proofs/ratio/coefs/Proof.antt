@@ -16,8 +16,8 @@ use Rattle.model.specs.Step as rule
 use Rattle.model.specs.declared.Term.{Term}
 use Rattle.model.proofs.Ranges.{sum-suc}
 use Rattle.model.proofs.RatioNumbers.{coefs-fit}
-use Rattle.taylor.specs.Layout.{termAt, termsIn, total, most-total}
-use Rattle.taylor.proofs.Terms.{length-terms, getD-terms}
+use Rattle.coefficients.specs.Layout.{termAt, termsIn, total, most-total}
+use Rattle.coefficients.proofs.Terms.{length-terms, getD-terms}
 use borrow.Author.Needs.{needs}
 use Rattle.taylor.proofs.ratio.coefs.Statement.{statement}
 use Rattle.taylor.proofs.ratio.coefs.Tie as tie

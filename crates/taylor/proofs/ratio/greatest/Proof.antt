@@ -13,7 +13,7 @@ use mir.Facts.{toZ-ofZ}
 use Rattle.model.specs.Range as range
 use Rattle.model.specs.Sheet.{scale, most}
 use Rattle.model.specs.Step.{reach}
-use Rattle.taylor.specs.Layout.{ballIn}
+use Rattle.coefficients.specs.Layout.{ballIn}
 use Rattle.taylor.proofs.Balls.{largest-suc, greatest-is}
 use borrow.Author.Needs.{needs}
 use Rattle.taylor.proofs.ratio.greatest.Statement.{statement}

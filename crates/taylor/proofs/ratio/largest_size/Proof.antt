@@ -6,7 +6,7 @@ use native.Mathlib.Numerals.{add-one}
 use native.Mathlib.Omega.{arith}
 use Rattle.model.specs.Range as range
 use Rattle.model.specs.Step as rule
-use Rattle.taylor.specs.Layout.{termsIn}
+use Rattle.coefficients.specs.Layout.{termsIn}
 use Rattle.taylor.proofs.Balls.{largest-suc}
 use borrow.Author.Needs.{needs}
 use Rattle.taylor.proofs.ratio.largest_size.Statement.{statement}

@@ -10,8 +10,8 @@ use Rattle.model.specs.Range as range
 use Rattle.model.specs.Sheet.{scale}
 use Rattle.model.specs.Step as rule
 use Rattle.model.proofs.RatioNumbers.{step-size-fits}
-use Rattle.taylor.specs.Layout.{termsIn}
-use Rattle.taylor.proofs.Terms.{total-bounded}
+use Rattle.coefficients.specs.Layout.{termsIn}
+use Rattle.coefficients.proofs.Terms.{total-bounded}
 use borrow.Author.Needs.{needs}
 use Rattle.taylor.proofs.ratio.ratio.Statement.{statement}
 use Rattle.taylor.proofs.ratio.ratio.Tie as tie

@@ -9,8 +9,8 @@ use Rattle.model.specs.Sheet.{scale, most}
 use Rattle.model.specs.Step as rule
 use Rattle.model.specs.declared.Term.{Term}
 use Rattle.model.proofs.RatioNumbers.{coefs-le, greatest-coefs-fit, size-fits}
-use Rattle.taylor.specs.Layout.{termsIn}
-use Rattle.taylor.proofs.Terms.{total-bounded}
+use Rattle.coefficients.specs.Layout.{termsIn}
+use Rattle.coefficients.proofs.Terms.{total-bounded}
 use borrow.Author.Needs.{needs}
 use Rattle.taylor.proofs.ratio.size.Statement.{statement}
 use Rattle.taylor.proofs.ratio.size.Tie as tie

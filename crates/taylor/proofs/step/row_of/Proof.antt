@@ -14,11 +14,11 @@ use Rattle.model.specs.declared.Ball.{Ball}
 use Rattle.model.specs.declared.Term.{Term}
 use Rattle.model.proofs.Bounds.{InBounds, greatest-le-most}
 use Rattle.model.proofs.Degree.{IsDegree, degree-is-least}
-use Rattle.taylor.specs.Layout.{quantities, ballIn, ballsIn, termsIn, tableIn, startIn, Filled}
+use Rattle.coefficients.specs.Layout.{quantities, ballIn, ballsIn, termsIn, tableIn, startIn, Filled}
 use Rattle.taylor.proofs.Balls.{length-balls, getD-balls}
 use Rattle.taylor.proofs.StepRow.{start-is, row-is}
-use Rattle.taylor.proofs.Filling.{start-filled}
-use Rattle.taylor.proofs.Filled.{filled-small}
+use Rattle.coefficients.proofs.Filling.{start-filled}
+use Rattle.coefficients.proofs.Filled.{filled-small}
 use borrow.Author.Needs.{needs}
 use Rattle.taylor.proofs.step.row_of.Statement.{statement}
 use Rattle.taylor.proofs.step.row_of.Tie as tie

@@ -10,7 +10,7 @@ use lib.Dec.{leb}
 use lib.IntN.{ℤ, pos, natAbs}
 use lib.ListN.{getD}
 use Rattle.model.specs.Range as range
-use Rattle.taylor.specs.Layout.{quantities, ballIn}
+use Rattle.coefficients.specs.Layout.{quantities, ballIn}
 use Rattle.taylor.proofs.Tests.{every-none, every-more, every-fails}
 use mir.Syntax.{w64}
 use mir.Val.{SFits, toZ, ofZ}

@@ -12,8 +12,8 @@ use Rattle.model.specs.Sheet.{scale, most}
 use Rattle.model.specs.Step.{reach, greatest, ratio}
 use Rattle.model.specs.Passage.{most-ratio}
 use Rattle.model.proofs.Verdicts.{every-holds}
-use Rattle.taylor.specs.Layout.{quantities, ballIn, ballsIn, termsIn, total, most-total}
-use Rattle.taylor.proofs.Terms.{terms-numbered}
+use Rattle.coefficients.specs.Layout.{quantities, ballIn, ballsIn, termsIn, total, most-total}
+use Rattle.coefficients.proofs.Terms.{terms-numbered}
 use Rattle.taylor.proofs.Answers.{too-large, too-fast, intolerable, moved, greatest-within, in-bounds}
 use borrow.Author.Needs.{needs}
 use Rattle.taylor.proofs.step.take_step.Statement.{statement}

@@ -9,7 +9,7 @@ use borrow.Author.Tests.{le-leb, lt-leb}
 use lib.Dec.{leb}
 use lib.ListN.{getD}
 use Rattle.model.specs.Range as range
-use Rattle.taylor.specs.Layout.{quantities}
+use Rattle.coefficients.specs.Layout.{quantities}
 use Rattle.taylor.proofs.Tests.{every-none, every-more, every-fails}
 use borrow.Author.Needs.{needs}
 use Rattle.taylor.proofs.step.tolerable.Statement.{statement}

@@ -1,0 +1,7 @@
+mod Convolution
+mod Entries
+pub mod Filled
+pub mod Filling
+pub mod Places
+mod Shares
+pub mod Terms

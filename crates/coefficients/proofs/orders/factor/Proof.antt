@@ -1,0 +1,106 @@
+-- `coefficients::orders::factor` meets its contract. Each return is a case of the definition.
+-- Assumes nothing.
+use Prim.Native.Nat.{ℕ, zero, suc, _+_, _-_, _*_, _≤_}
+use mathlib.Core.Logic.{_≢_}
+use mathlib.Core.List.{List}
+use mathlib.Core.Path.{_≡_, refl, sym, ap, _∙_}
+use native.Mathlib.Nat.{le-refl}
+use native.Mathlib.Omega.{arith}
+use lib.IntN.{ℤ, pos, natAbs}
+use lib.ListN.{getD}
+use mir.Syntax.{w64}
+use mir.Val.{SFits, toZ, ofZ}
+use mir.Facts.{toZ-ofZ}
+use Rattle.model.specs.Sheet.{scale}
+use Rattle.model.specs.Step.{Coefficients, no-ball, factor}
+use Rattle.model.specs.declared.Ball.{Ball}
+use Rattle.coefficients.specs.Layout.{quantities, orders, place, ballAt, tableIn}
+use Rattle.coefficients.proofs.Places.{ball-equal, factor-in}
+use borrow.Author.Needs.{needs}
+use Rattle.coefficients.proofs.orders.factor.Statement.{statement}
+use Rattle.coefficients.proofs.orders.factor.Tie as tie
+
+absent-at-start : (table : Coefficients) {k number : ℕ} → number ≡ 0 → k ≡ 0 → _≡_ {A = Ball} (record { value = pos 16777216; radius = 0 }) (factor table k number)
+unfolding factor scale
+absent-at-start table p q = rw (p, q)
+
+absent-after : (table : Coefficients) {k number : ℕ} → number ≡ 0 → k ≢ 0 → _≡_ {A = Ball} (record { value = pos 0; radius = 0 }) (factor table k number)
+unfolding factor no-ball
+absent-after table {k} p q = rw p (go k q)
+  where
+    go : (k : ℕ) → k ≢ 0 → _≡_ {A = Ball} (record { value = pos 0; radius = 0 }) (factor table k 0)
+    go zero q = absurd (q refl)
+    go (suc k) q = refl
+
+abs-kept : {z : ℤ} {m : ℕ} → SFits w64 z → m ≡ natAbs (toZ w64 (ofZ w64 z)) → m ≡ natAbs z
+abs-kept fits e = rw (toZ-ofZ fits) at e
+
+present : (values : List ℤ) (reaches : List ℕ) (k number : ℕ) {m : ℕ} → number ≢ 0 → number ≤ quantities → SFits w64 (getD values ((number - 1) * 29 + k) (pos 0)) → m ≡ natAbs (toZ w64 (ofZ w64 (getD values ((number - 1) * 29 + k) (pos 0)))) →
+    _≡_ {A = Ball} (record { value = toZ w64 (ofZ w64 (getD values ((number - 1) * 29 + k) (pos 0))); radius = getD reaches ((number - 1) * 29 + k) 0 - m }) (factor (tableIn k values reaches) k number)
+unfolding ballAt place orders
+present values reaches k number p high fits e =
+    ball-equal (toZ-ofZ fits) (ap (λ (m : ℕ). getD reaches ((number - 1) * 29 + k) 0 - m) (abs-kept fits e)) ∙ sym (factor-in k values reaches k (le-refl k) number (omega (arith, p), high))
+
+returns : tie.Need-returns
+returns c = absent-at-start _ (c .before .if1 .taken) (c .if2 .taken)
+
+returns-2 : tie.Need-returns-2
+returns-2 c = absent-after _ (c .before .if1 .taken) (c .if2 .left)
+
+sub-at : tie.Need-sub-at
+sub-at c = search needs
+
+mul-at : tie.Need-mul-at
+unfolding quantities
+mul-at c = omega (arith, c .before .pre)
+
+add-at : tie.Need-add-at
+unfolding quantities
+add-at c = omega (arith, c .before .pre .1)
+
+mul-c : tie.Need-mul-c
+unfolding quantities
+mul-c c = omega (arith, c .before .pre .1)
+
+element-copy-out-c : tie.Need-element-copy-out-c
+unfolding quantities
+element-copy-out-c c = omega (arith, c .before .pre .1, c .if1 .left)
+
+mul-t10 : tie.Need-mul-t10
+unfolding quantities
+mul-t10 c = omega (arith, c .before .before .pre .1)
+
+element-copy-out-t16 : tie.Need-element-copy-out-t16
+unfolding quantities
+element-copy-out-t16 c = omega (arith, c .before .before .pre .1, c .before .if1 .left)
+
+magnitude-requires : tie.Need-magnitude-requires
+magnitude-requires c κs = search needs
+
+sub-t18 : tie.Need-sub-t18
+sub-t18 c =
+    let a = c .before .before .before .before in
+    let read = getD (a .args .values .now) ((a .args .number - 1) * 29 + a .args .k) (pos 0) in
+    omega (arith, abs-kept {z = read} (record { sfits = c .before .before .c .given }) (c .magnitude .ensures), a .pre .0 .table .covered ((a .args .number - 1) * 29 + a .args .k))
+
+returns-3 : tie.Need-returns-3
+returns-3 c =
+    let a = c .before .before .before .before in
+    present _ _ (a .args .k) (a .args .number) (c .before .before .before .if1 .left) (a .pre .1 .1) (record { sfits = c .before .before .c .given }) (c .magnitude .ensures)
+
+pub factor-spec : {M : Type 1} → statement M
+factor-spec =
+    tie.close
+    (tie.spec
+    returns
+    returns-2
+    sub-at
+    mul-at
+    add-at
+    mul-c
+    element-copy-out-c
+    mul-t10
+    element-copy-out-t16
+    magnitude-requires
+    sub-t18
+    returns-3)
