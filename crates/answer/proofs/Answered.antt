@@ -1,17 +1,17 @@
 -- The answer with lent places: what each reading makes of it, and that with places enough it is document 01's. Assumes nothing.
-use Prim.Native.Nat.{ℕ, _+_, _-_, _*_, _≤_, _<_}
+use Prim.Native.Nat.{ℕ, _-_, _*_, _≤_}
 use mathlib.Core.Bool.{Bool, true, false}
-use mathlib.Core.List.{List, []}
-use mathlib.Core.Path.{_≡_, refl, sym, ap, _∙_, subst}
+use mathlib.Core.List.{List}
+use mathlib.Core.Path.{_≡_, refl, sym, ap, _∙_}
 use native.Mathlib.Omega.{arith}
 use native.Mathlib.Nat.{le-trans, mul-le-mul-right}
-use borrow.Author.Tests.{le-leb, leb-true, leb-false}
+use borrow.Author.Tests.{le-leb, leb-true}
 use lib.Dec.{leb}
 use lib.IntN.{ℤ}
 use lib.ListN.{length}
 use Rattle.model.specs.Range.{tabulate}
 use Rattle.model.specs.Answer.{answer, outcomeText, rowsText, runText}
-use Rattle.model.specs.Passage.{Run, passage, run, refused, written, width, placesNeeded, rowsIn, rowsWritten}
+use Rattle.model.specs.Passage.{passage, run, refused, written, width, placesNeeded, rowsIn, rowsWritten}
 use Rattle.model.specs.Reading.{readSheet}
 use Rattle.model.specs.Sheet.{n-limits, steps-limits, Verdict, sheetVerdict, passes, refuses}
 use Rattle.model.specs.declared.Outcome.{Outcome}

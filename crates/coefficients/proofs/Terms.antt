@@ -1,19 +1,14 @@
 -- Sums over the terms that stand in flat arrays, as a loop over these forms them. Assumes nothing.
-use Prim.Native.Nat.{ℕ, zero, suc, _+_, _*_, _≤_, _<_}
-use mathlib.Core.Bool.{Bool, true, false, cond}
+use Prim.Native.Nat.{ℕ, _*_, _≤_, _<_}
 use mathlib.Core.List.{List}
-use mathlib.Core.Path.{_≡_, refl, sym, ap, _∙_}
+use mathlib.Core.Path.{_≡_, ap}
 use native.Mathlib.Nat.{le-trans}
-use native.Mathlib.Omega.{arith}
-use lib.Dec.{eqb}
-use lib.IntN.{ℤ, pos, natAbs}
+use lib.IntN.{ℤ, natAbs}
 use lib.ListN.{length, getD}
-use Rattle.model.specs.Range.{sum, sumℤ, tabulate}
+use Rattle.model.specs.Range.{sum, sumℤ}
 use Rattle.model.specs.Sheet.{no-term}
-use Rattle.model.specs.Step.{brings, coefOf, factors, coefs}
 use Rattle.model.specs.declared.Term.{Term}
-use Rattle.model.proofs.Ranges.{sum-suc, sum-equal, sum-le, sumℤ-equal, length-tabulate, getD-tabulate}
-use Rattle.model.proofs.Reach.{sum-partial}
+use Rattle.model.proofs.Ranges.{sum-equal, sumℤ-equal, length-tabulate, getD-tabulate}
 use Rattle.model.proofs.Bounds.{TermsInBounds}
 use Rattle.coefficients.specs.Layout.{quantities, termAt, termsIn, Numbered, total, most-total}
 

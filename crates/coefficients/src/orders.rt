@@ -4,7 +4,7 @@
 // four.
 ghost use mathlib.Core.Path.{_≡_};
 ghost use Prim.Native.Nat.{ℕ, suc, _+_, _-_, _*_, _^_, _≤_, _<_};
-ghost use lib.IntN.{ℤ, pos, natAbs, _+ℤ_, _*ℤ_};
+ghost use lib.IntN.{pos, natAbs, _+ℤ_, _*ℤ_};
 ghost use lib.ListN.{length, getD, set, replicate};
 ghost use Rattle.rounding.specs.Rounding as round;
 ghost use Rattle.model.specs.Sheet.{scale, most};

@@ -13,7 +13,7 @@ use lib.Dec.{leb}
 use lib.ListN.{length, getD, take, replicate, length-append, length-replicate, List·getD-append}
 use borrow.Author.Tests.{lt-leb, eq-eqb}
 use Rattle.model.specs.Range.{bytes}
-use Rattle.model.specs.Reading.{Parsed, parsed, fault, return, _>>=_, holds, field, signedField, start, quantity, term, sheet, accepted, most-bytes, readSheet, after}
+use Rattle.model.specs.Reading.{Parsed, parsed, fault, return, _>>=_, signedField, start, quantity, term, sheet, accepted, most-bytes, readSheet, after}
 use Rattle.model.specs.Sheet.{number, Verdict, passes, _then_, inOrder, quantityVerdict, startVerdict, termVerdict, sheetVerdict, no-quantity, no-term, no-sheet, padded, ZeroPastCounts, n-limits, steps-limits, step-limits, tail-limits, tol-limits, start-limits, radius-limits, terms-limits, to-limits, coef-limits, first-limits, second-limits, from_to_}
 use Rattle.model.specs.declared.Refusal.{Refusal}
 use Rattle.model.specs.declared.Refusal.the-variants.{Oversized, NoReading}

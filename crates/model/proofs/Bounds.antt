@@ -15,11 +15,11 @@ use Rattle.model.specs.Exact.{bringsℤ}
 use Rattle.model.specs.Step.{Ball, no-ball, reach, greatest, brings, ratio, Coefficients, coefficient, factor, share, nextCoefficient, coefficientsTo}
 use Rattle.model.specs.Passage.{most-ratio}
 use Rattle.model.specs.declared.Term.{Term}
-use Rattle.model.proofs.Ranges.{sum-le}
+use Rattle.model.proofs.Ranges.{sum-le, largest-bounded, largest-le, sum-partial}
 use Rattle.model.proofs.Tables.{coefficients-grow, factor-stays}
-use Rattle.model.proofs.Reach.{reach-rounded, reach-sums, sum-partial}
+use Rattle.model.proofs.Reach.{reach-rounded, reach-sums}
 use Rattle.model.proofs.Shares.{FactorsReach, factor-reach, brings-reach, shares-weighed}
-use Rattle.model.proofs.Weights.{weightOf, weight-by-ratio, largest-le, largest-bounded}
+use Rattle.model.proofs.Weights.{weightOf, weight-by-ratio}
 
 -- What a sheet's verdict says of its terms and its step, n being the number of quantities. Of the coefficients only their total is bounded.
 pub record TermsInBounds (terms : List Term) (H : ℤ) (n : ℕ) : Type 0 where

@@ -23,10 +23,9 @@ use Rattle.model.specs.declared.Term.{Term}
 use Rattle.model.proofs.Bounds.{scale-le-greatest, reach-le-greatest}
 use Rattle.model.proofs.Coefficients.{sums-enclosed}
 use Rattle.model.proofs.Majorant.{WellFormed, summand-under}
-use Rattle.model.proofs.Ranges.{length-tabulate, getD-tabulate}
+use Rattle.model.proofs.Ranges.{length-tabulate, getD-tabulate, largest-le}
 use Rattle.model.proofs.Reach.{scale-positive}
 use Rattle.model.proofs.Tail.{summand, partialSum, apart, tail-covers-rest}
-use Rattle.model.proofs.Weights.{largest-le}
 
 -- u ÷ m within e of c, and v ÷ n within t of u ÷ m
 within-through : {u v : ℤ} (m n : ℕ) {c : ℤ} {e : ℕ} (t : ℕ) → 0 < m → Within u m c e → natAbs (v *ℤ pos m -ℤ u *ℤ pos n) ≤ t * (n * m) → Within v n c (e + t)

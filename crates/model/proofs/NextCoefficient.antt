@@ -19,6 +19,7 @@ use Rattle.model.specs.Exact.{Orders, order, binomial, bringsℤ, factor
 use Rattle.model.specs.Step.{Ball, no-ball, Coefficients, coefficient, factor, brings, productRadius, products, times, share, nextCoefficient}
 use Rattle.model.specs.declared.Term.{Term}
 use Rattle.model.proofs.Ranges.{sumℤ-equal, sumℤ-last, sumℤ-factor, within-zero, within-same, within-sums}
+use Rattle.model.proofs.Reach.{scale-positive}
 use Rattle.model.proofs.Binomial.{binomial-all, binomial-denominators}
 
 -- u ÷ m lies within a ball
@@ -42,10 +43,6 @@ pow-add H (suc k) l (suc m) e = sym (mul-assocℤ (pow H l) (pow H m) H) ∙ ap 
 one-mulℤ : (z : ℤ) → pos 1 *ℤ z ≡ z
 unfolding one
 one-mulℤ z = *ℤ-comm (pos 1) z ∙ *ℤ-one z
-
-scale-positive : 0 < scale
-unfolding scale
-scale-positive = omega arith
 
 brings-enclosed : (target : ℕ) (term : Term) {u : ℤ} {m : ℕ} {c : ℤ} {e : ℕ} → Within u m c e → Within (bringsℤ target term u) m (bringsℤ target term c) (brings target term e)
 unfolding bringsℤ brings

@@ -11,7 +11,7 @@ use lib.ListN.{length, getD, replicate}
 use borrow.Author.Tests.{le-leb}
 use Rattle.rounding.specs.Rounding.{up}
 use Rattle.rounding.proofs.Roundings.{up-is-least}
-use Rattle.model.specs.Range.{sum, sumℤ, largest, every, least}
+use Rattle.model.specs.Range.{sum, sumℤ, largest, least}
 use Rattle.model.specs.Sheet.{scale, sheetVerdict, passes}
 use Rattle.model.specs.Step.{Ball, no-ball, greatest, size, coefs, ratio, majorant, tailAt, degree, coefficient, coefficientsTo, Row, newBall, newRow, stepRow}
 use Rattle.model.specs.Passage.{moves, question, small, slow, most-ratio, tolerable, tolerated, advance, goOn, follow, termsOf, startsOf, placesNeeded, run, passage}

@@ -17,7 +17,7 @@ use lib.IntN.{ℤ, pos, negsuc, natAbs}
 use lib.Dec.{eqb}
 use lib.ListN.{length, getD, length-append, List·getD-append}
 use Rattle.model.specs.Range.{bytes}
-use Rattle.model.specs.Reading.{Parsed, parsed, fault, Parser, return, _>>=_, times, holds, misspelt, outside, faults, Spelled, spelled, wrong, ended, line, natural, signed, field, signedField, end, sheet, after}
+use Rattle.model.specs.Reading.{Parsed, parsed, fault, Parser, return, _>>=_, times, holds, misspelt, outside, faults, Spelled, spelled, wrong, ended, line, natural, signed, field, signedField, end, after}
 use Rattle.model.specs.Sheet.{number, passes, ask, Limits, within, inRange}
 use Rattle.model.specs.declared.Refusal.{Refusal}
 use Rattle.model.specs.declared.Refusal.the-variants.{Misspelt, OutOfRange}

@@ -1,11 +1,11 @@
--- Laws of sums and lists over 0 .. n - 1: one more turn, equal or smaller summands, a factor moved in, magnitudes, enclosures, and the
+-- Laws of sums, of the largest and of lists over 0 .. n - 1: one more turn, equal or smaller summands, a factor moved in, magnitudes, enclosures, and the
 -- entries of a list by its numbers. Assumes nothing.
 use Prim.Native.Nat.{ℕ, zero, suc, _+_, _*_, _≤_, _<_}
 use mathlib.Core.List.{List, [], _∷_, _++_, map, map-append}
 use mathlib.Core.Path.{_≡_, refl, sym, ap, ap₂, _∙_, subst}
 use mathlib.Core.Logic.{_⊎_, inl, inr, ⊎-elim}
-use native.Mathlib.Nat.{eq-or-lt-of-le, mul-add, mul-zero, add-mul, zero-mul, one-mul}
-use native.Mathlib.Decide.{decLt}
+use native.Mathlib.Nat.{eq-or-lt-of-le, mul-add, mul-zero, add-mul, zero-mul, one-mul, le-refl, le-trans, le-max-left, le-max-right, max-le}
+use native.Mathlib.Decide.{decLt, le-ind}
 use native.Mathlib.Numerals.{add-one}
 use native.Mathlib.Omega.{arith}
 use lib.IntN.{ℤ, pos, natAbs, _+ℤ_, _*ℤ_, zero-*ℤ, *ℤ-zero, +ℤ-idl}
@@ -14,7 +14,7 @@ use lib.Seq.{getD-at, ext-getD}
 use Rattle.rounding.specs.Enclosure.{Within}
 use Rattle.rounding.proofs.Integers.{abs-add, mul-addℤ}
 use Rattle.rounding.proofs.Enclosure.{within-sum, within-exact}
-use Rattle.model.specs.Range.{sum, sumℤ, tabulate}
+use Rattle.model.specs.Range.{sum, sumℤ, largest, tabulate}
 
 -- ---- one more turn
 
@@ -134,3 +134,26 @@ getD-tabulate-past n f x i h = List·getD-eq-default (tabulate n f) x (rw length
 pub tabulate-is : {A : Type 0} (n : ℕ) (f : ℕ → A) (x : A) (xs : List A) → length xs ≡ n → ((i : ℕ) → i < n → f i ≡ getD xs i x) → tabulate n f ≡ xs
 tabulate-is n f x xs len h =
     ext-getD x (tabulate n f) xs (length-tabulate n f ∙ sym len) (λ i k. let l : i < n = rw length-tabulate at k in getD-tabulate n f x i l ∙ h i l)
+
+-- ---- fewer summands, and one of them
+
+pub sum-partial : (f : ℕ → ℕ) {m : ℕ} (n : ℕ) → m ≤ n → sum m f ≤ sum n f
+unfolding sum
+sum-partial f {m} = le-ind (λ n. sum m f ≤ sum n f) (le-refl (sum m f)) (λ n h l. omega arith)
+
+pub summand-le : (f : ℕ → ℕ) (n : ℕ) {k : ℕ} → k < n → f k ≤ sum n f
+unfolding sum
+summand-le f n {k} h = omega (arith, sum-partial f n h)
+
+-- ---- the largest
+
+pub largest-le : (n : ℕ) (f : ℕ → ℕ) (i : ℕ) → i < n → f i ≤ largest n f
+unfolding largest
+largest-le zero f i h = absurd (omega arith)
+largest-le (suc n) f i h =
+    ⊎-elim (λ (e : i ≡ n). rw e (le-max-right (largest n f) (f n))) (λ (l : i < n). le-trans (largest-le n f i l) (le-max-left (largest n f) (f n))) (eq-or-lt-of-le {n = i} {m = n} (omega arith))
+
+pub largest-bounded : (n : ℕ) (f : ℕ → ℕ) (b : ℕ) → ((i : ℕ) → i < n → f i ≤ b) → largest n f ≤ b
+unfolding largest
+largest-bounded zero f b h = omega arith
+largest-bounded (suc n) f b h = max-le (largest-bounded n f b (below n h)) (h n (omega arith))

@@ -13,9 +13,8 @@ use Rattle.model.specs.Range.{sum, largest}
 use Rattle.model.specs.Sheet.{scale, most, no-term}
 use Rattle.model.specs.Step.{brings, coefOf, factors, coefs, size, ratio}
 use Rattle.model.specs.declared.Term.{Term}
-use Rattle.model.proofs.Ranges.{sum-le}
-use Rattle.model.proofs.Reach.{sum-partial, scale-positive}
-use Rattle.model.proofs.Weights.{largest-bounded}
+use Rattle.model.proofs.Ranges.{sum-le, largest-bounded, sum-partial}
+use Rattle.model.proofs.Reach.{scale-positive}
 
 cond-le : (b : Bool) (a : ℕ) → cond b a 0 ≤ a
 cond-le true a = le-refl a

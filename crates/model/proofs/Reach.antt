@@ -2,8 +2,7 @@
 -- at most the divisor is used. Assumes nothing.
 use Prim.Native.Nat.{ℕ, zero, suc, _+_, _*_, _-_, _≤_, _<_}
 use mathlib.Core.Path.{_≡_, ap, _∙_}
-use native.Mathlib.Nat.{le-refl, le-trans, mul-le-mul-left, div-mul-le-self}
-use native.Mathlib.Decide.{le-ind}
+use native.Mathlib.Nat.{le-trans, mul-le-mul-left, div-mul-le-self}
 use native.Mathlib.Omega.{arith}
 use lib.IntN.{ℤ, pos, natAbs, _-ℤ_, _*ℤ_}
 use Rattle.rounding.specs.Rounding.{near, up, distance}
@@ -63,11 +62,3 @@ reach-sums (suc n) c e = omega (arith, reach-sums n c e, abs-add (sumℤ n c) (c
 pub reach-sums-bounded : (n : ℕ) (c : ℕ → ℤ) (e : ℕ → ℕ) (d b : ℕ) → ((k : ℕ) → k < n → d * (natAbs (c k) + e k) ≤ b) → d * (natAbs (sumℤ n c) + sum n e) ≤ n * b
 reach-sums-bounded n c e d b h =
     le-trans (mul-le-mul-left d (reach-sums n c e)) (rw (sum-factor n d (λ k. natAbs (c k) + e k), ← sum-constant n b) (sum-le n _ _ h))
-
-pub sum-partial : (f : ℕ → ℕ) {m : ℕ} (n : ℕ) → m ≤ n → sum m f ≤ sum n f
-unfolding sum
-sum-partial f {m} = le-ind (λ n. sum m f ≤ sum n f) (le-refl (sum m f)) (λ n h l. omega arith)
-
-pub summand-le : (f : ℕ → ℕ) (n : ℕ) {k : ℕ} → k < n → f k ≤ sum n f
-unfolding sum
-summand-le f n {k} h = omega (arith, sum-partial f n h)

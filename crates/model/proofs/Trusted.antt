@@ -1,6 +1,6 @@
 -- Demand 3 of a whole passage: its rows are trusted, whatever the sheet and however many places are lent.
 -- One induction over the rows; each step taken had its questions answered yes. Assumes nothing.
-use Prim.Native.Nat.{ℕ, zero, suc, _≤_, _<_}
+use Prim.Native.Nat.{ℕ, zero, suc, _≤_}
 use mathlib.Core.Bool.{Bool, true, false}
 use mathlib.Core.List.{List, [], _∷_}
 use mathlib.Core.Path.{_≡_, refl, ap}

@@ -2,15 +2,14 @@
 -- Assumes nothing.
 use Prim.Native.Nat.{ℕ, zero, suc, _≤_, _<_}
 use mathlib.Core.Bool.{Bool, true, false, _&&_}
-use mathlib.Core.List.{List}
 use mathlib.Core.Logic.{⊎-elim}
-use mathlib.Core.Path.{_≡_, refl, sym, ap, _∙_}
+use mathlib.Core.Path.{_≡_, refl}
 use native.Mathlib.Nat.{eq-or-lt-of-le}
 use native.Mathlib.Omega.{arith}
 use borrow.Author.Tests.{leb-true}
 use lib.Dec.{leb}
-use lib.IntN.{ℤ, pos}
-use lib.ListN.{length, getD}
+use lib.IntN.{pos}
+use lib.ListN.{getD}
 use Rattle.model.specs.Range.{every}
 use Rattle.model.specs.Sheet.{Verdict, passes, refuses, ask, _then_, inOrder, from_to_, within, n-limits, steps-limits, step-limits, tail-limits, tol-limits, terms-limits, to-limits, coef-limits, first-limits, second-limits, inRange, quantityVerdict, termVerdict, no-quantity, no-term, sheetVerdict}
 use Rattle.model.specs.declared.Refusal.{Refusal}

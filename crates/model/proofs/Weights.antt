@@ -3,9 +3,8 @@
 use Prim.Native.Nat.{ℕ, zero, suc, _+_, _*_, _≤_, _<_}
 use mathlib.Core.Bool.{Bool, true, false, cond}
 use mathlib.Core.List.{List}
-use mathlib.Core.Logic.{⊎-elim}
 use mathlib.Core.Path.{_≡_}
-use native.Mathlib.Nat.{eq-or-lt-of-le, le-max-left, le-max-right, max-le, le-trans, mul-le-mul-left, mul-zero}
+use native.Mathlib.Nat.{mul-le-mul-left, mul-zero}
 use native.Mathlib.Omega.{arith}
 use lib.Dec.{eqb, eqb·suc-zero}
 use lib.IntN.{ℤ, natAbs}
@@ -15,7 +14,7 @@ use Rattle.model.specs.Range.{sum, largest}
 use Rattle.model.specs.Sheet.{scale, no-term}
 use Rattle.model.specs.Step.{factors, brings, coefOf, coefs, size, ratio}
 use Rattle.model.specs.declared.Term.{Term}
-use Rattle.model.proofs.Ranges.{below}
+use Rattle.model.proofs.Ranges.{largest-le}
 use Rattle.model.proofs.Reach.{scale-positive}
 
 -- the scales of a first and a second factor, multiplied
@@ -70,17 +69,6 @@ weight-by-count terms G target = go (length terms)
     go (suc n) = omega (arith, go n, brings-by-count G target (getD terms n no-term))
 
 -- ---- the ratio
-
-pub largest-le : (n : ℕ) (f : ℕ → ℕ) (i : ℕ) → i < n → f i ≤ largest n f
-unfolding largest
-largest-le zero f i h = absurd (omega arith)
-largest-le (suc n) f i h =
-    ⊎-elim (λ (e : i ≡ n). rw e (le-max-right (largest n f) (f n))) (λ (l : i < n). le-trans (largest-le n f i l) (le-max-left (largest n f) (f n))) (eq-or-lt-of-le {n = i} {m = n} (omega arith))
-
-pub largest-bounded : (n : ℕ) (f : ℕ → ℕ) (b : ℕ) → ((i : ℕ) → i < n → f i ≤ b) → largest n f ≤ b
-unfolding largest
-largest-bounded zero f b h = omega arith
-largest-bounded (suc n) f b h = max-le (largest-bounded n f b (below n h)) (h n (omega arith))
 
 pub weight-by-size : (terms : List Term) {G : ℕ} (target : ℕ) → 0 < G → weightOf terms G target ≤ scale * (G * size terms G target)
 unfolding size

@@ -12,12 +12,13 @@ use Rattle.rounding.proofs.Integers.{abs-add}
 use Rattle.model.specs.Range.{sum, sumℤ}
 use Rattle.model.specs.Sheet.{scale, most, no-term}
 use Rattle.model.specs.Exact.{bringsℤ}
-use Rattle.model.specs.Step.{Ball, reach, greatest, brings, ratio, Coefficients, coefficient, factor, productRadius, products, times, share, coefficientsTo, newBall}
+use Rattle.model.specs.Step.{Ball, reach, greatest, brings, Coefficients, coefficient, factor, productRadius, products, times, share, coefficientsTo, newBall}
 use Rattle.model.specs.declared.Term.{Term}
-use Rattle.model.proofs.Reach.{reach-product, reach-times, reach-sums-bounded, summand-le}
+use Rattle.model.proofs.Reach.{reach-product, reach-times, reach-sums-bounded}
 use Rattle.model.proofs.Weights.{weighs, weightOf}
 use Rattle.model.proofs.Shares.{FactorsReach, partialProducts, products-bounded, carried-weighed}
 use Rattle.model.proofs.Bounds.{InBounds, weight-halved, scale-le-greatest, greatest-le-most, brought-bounded, coefficient-bounded, coefficient-halved}
+use Rattle.model.proofs.Ranges.{summand-le}
 
 pub value-le-reach : (ball : Ball) → natAbs (ball .value) ≤ reach ball
 unfolding reach

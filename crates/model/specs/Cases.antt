@@ -1,5 +1,5 @@
 -- Document 01's soundings A to J, as one table. proofs/Cases.antt has the one theorem, that every case holds.
-use Prim.Native.Nat.{ℕ, zero}
+use Prim.Native.Nat.{ℕ}
 use Prim.Native.String.{String, _++_ as _&_}
 use mathlib.Core.List.{List, [], _∷_}
 use mathlib.Core.Path.{_≡_}
@@ -9,7 +9,6 @@ use Rattle.rounding.specs.Rounding.{near, up}
 use Rattle.model.specs.Range.{bytes}
 use Rattle.model.specs.Sheet.{result, refusedStep}
 use Rattle.model.specs.Reading.{readSheet}
-use Rattle.model.specs.Step.{Row, Ball, no-ball}
 use Rattle.model.specs.Passage.{Run, run, passage}
 use Rattle.model.specs.Trust.{no-row}
 use Rattle.model.specs.Answer.{answer}

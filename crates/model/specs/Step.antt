@@ -1,6 +1,6 @@
 -- Document 01, 'One rounded step'.
 use Prim.Native.Nat.{ℕ, zero, suc, _+_, _-_, _*_, max}
-use mathlib.Core.Bool.{Bool, true, false, cond, _&&_}
+use mathlib.Core.Bool.{cond}
 use mathlib.Core.List.{List, [], _∷_, _++_}
 use lib.Dec.{eqb, leb}
 use lib.IntN.{ℤ, pos, natAbs, _*ℤ_}

@@ -11,7 +11,7 @@ use borrow.Author.Tests.{ltb-true}
 use lib.Signed.{ltZ}
 use lib.IntN.{ℤ, pos, negsuc, negℤ, natAbs, _+ℤ_, _-ℤ_, _*ℤ_, ℤ-discrete, negℤ-negℤ}
 use Rattle.rounding.specs.Rounding.{up, near, nearℕ, IsUp, IsNear, distance}
-use Rattle.rounding.proofs.Integers.{ringℤ, ringℕ, minus-plus, abs-neg, abs-mul, abs-add, positive, negative, abs-parts, add-parts, neg-parts, abs-le, from-parts, abs-sub, abs-sub-le, sub-zero-same, difference}
+use Rattle.rounding.proofs.Integers.{ringℤ, ringℕ, abs-neg, abs-mul, abs-sub, abs-sub-le, sub-zero-same, difference}
 
 pub next-multiple : (k d : ℕ) → (k + 1) * d ≡ k * d + d
 next-multiple k d = simp ringℕ (omega (arith, one-mul d))

@@ -2,7 +2,7 @@
 use Prim.Native.Nat.{ℕ, zero, suc, _≤_, _<_}
 use mathlib.Core.Bool.{Bool, true, false, _&&_}
 use mathlib.Core.List.{List}
-use mathlib.Core.Path.{_≡_, refl, sym, ap, ap₂, _∙_}
+use mathlib.Core.Path.{_≡_, refl, ap, ap₂}
 use native.Mathlib.Nat.{max-le}
 use native.Mathlib.Omega.{arith}
 use borrow.Author.Tests.{le-leb, lt-leb}
@@ -11,18 +11,16 @@ use lib.IntN.{ℤ}
 use lib.ListN.{length, getD}
 use Rattle.model.specs.Range.{every}
 use Rattle.model.specs.Sheet.{scale, most}
-use Rattle.model.specs.Step.{no-ball, reach, greatest, ratio, Row, stepRow}
+use Rattle.model.specs.Step.{no-ball, reach, greatest, ratio, stepRow}
 use Rattle.model.specs.Passage.{question, small, slow, most-ratio, tolerable, tolerated, advance}
 use Rattle.model.specs.declared.Ball.{Ball}
 use Rattle.model.specs.declared.Refusal.the-variants.{TooLarge, TooFast, Intolerable}
 use Rattle.model.specs.declared.Term.{Term}
-use Rattle.model.proofs.Ranges.{below}
+use Rattle.model.proofs.Ranges.{below, largest-bounded}
 use Rattle.model.proofs.Bounds.{TermsInBounds, InBounds, scale-le-greatest}
-use Rattle.model.proofs.Weights.{largest-bounded}
 use Rattle.coefficients.specs.Layout.{ballIn, ballsIn}
 use Rattle.taylor.specs.Step.{StepIs}
 use Rattle.taylor.specs.declared.step.Balls.{Balls}
-use Rattle.taylor.specs.declared.step.Stepped.{Stepped}
 use Rattle.taylor.specs.declared.step.Advance.the-variants.{Moves, Stops}
 use Rattle.taylor.proofs.Balls.{length-balls, getD-balls, greatest-is}
 

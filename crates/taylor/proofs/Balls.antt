@@ -1,14 +1,13 @@
 -- G and the largest size, as a loop over the arrays forms them. Assumes nothing.
-use Prim.Native.Nat.{ℕ, zero, suc, _+_, _*_, max, _≤_, _<_}
+use Prim.Native.Nat.{ℕ, zero, suc, max, _<_}
 use mathlib.Core.List.{List}
-use mathlib.Core.Path.{_≡_, refl, sym, ap, ap₂, _∙_}
+use mathlib.Core.Path.{_≡_, refl, ap, ap₂}
 use native.Mathlib.Omega.{arith}
-use lib.IntN.{ℤ, pos, natAbs}
+use lib.IntN.{ℤ}
 use lib.ListN.{length, getD}
-use Rattle.model.specs.Range.{largest, tabulate}
+use Rattle.model.specs.Range.{largest}
 use Rattle.model.specs.Sheet.{scale}
 use Rattle.model.specs.Step.{no-ball, reach, greatest}
-use Rattle.model.specs.declared.Ball.{Ball}
 use Rattle.model.proofs.Ranges.{below, length-tabulate, getD-tabulate}
 use Rattle.coefficients.specs.Layout.{ballsIn, ballIn}
 

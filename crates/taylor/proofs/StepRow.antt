@@ -1,12 +1,11 @@
 -- The row that the table of a step comes to is the definition's. Assumes nothing.
 use Prim.Native.Nat.{ℕ, suc, _+_, _≤_, _<_}
 use mathlib.Core.List.{List}
-use mathlib.Core.Path.{_≡_, refl, sym, ap, ap₂, _∙_}
+use mathlib.Core.Path.{_≡_, ap, _∙_}
 use native.Mathlib.Omega.{arith}
 use lib.IntN.{ℤ}
-use lib.ListN.{length, getD}
-use Rattle.model.specs.Range.{sum, sumℤ, tabulate}
-use Rattle.model.specs.Step.{Coefficients, Row, coefficient, coefficientsTo, greatest, ratio, degree, tailAt, newBall, newRow, stepRow}
+use Rattle.model.specs.Range.{tabulate}
+use Rattle.model.specs.Step.{Coefficients, coefficient, coefficientsTo, greatest, ratio, degree, tailAt, newBall, newRow, stepRow}
 use Rattle.model.specs.declared.Ball.{Ball}
 use Rattle.model.specs.declared.Term.{Term}
 use Rattle.model.proofs.Ranges.{sum-equal, sumℤ-equal, tabulate-equal}

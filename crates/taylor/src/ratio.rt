@@ -1,8 +1,7 @@
 // Document 01, 'Ratio and tail': G, the sizes and the ratio.
 ghost use mathlib.Core.Path.{_≡_};
-ghost use Prim.Native.Nat.{ℕ, suc, _+_, _*_, _^_, max, _≤_, _<_};
-ghost use lib.IntN.{ℤ, pos, natAbs};
-ghost use lib.ListN.{getD};
+ghost use Prim.Native.Nat.{ℕ, suc, _+_, _*_, max, _≤_, _<_};
+ghost use lib.IntN.{pos, natAbs};
 ghost use Rattle.model.specs.Sheet.{scale, most};
 ghost use Rattle.model.specs.Range.{largest};
 ghost use Rattle.model.specs.Step as rule;

@@ -1,9 +1,8 @@
 // One step with its questions: document 01, questions 4 to 6 and 'One rounded step'.
 ghost use mathlib.Core.Path.{_≡_};
-ghost use Prim.Native.Nat.{ℕ, _^_, _≤_, _<_};
-ghost use lib.IntN.{natAbs};
+ghost use Prim.Native.Nat.{_^_, _≤_, _<_};
 ghost use lib.Dec.{leb};
-ghost use lib.ListN.{length, getD};
+ghost use lib.ListN.{getD};
 ghost use Rattle.model.specs.Range.{every};
 ghost use Rattle.model.specs.Sheet.{most};
 ghost use Rattle.model.specs.Step as rule;

@@ -1,7 +1,7 @@
 -- `answer::planner_answer` meets its contract. A refused sheet has its outcome printed alone; a passage its rows and its outcome.
 -- Assumes nothing.
-use Prim.Native.Nat.{ℕ, _≤_}
-use mathlib.Core.Path.{_≡_, refl, sym, ap, _∙_, subst}
+use Prim.Native.Nat.{ℕ}
+use mathlib.Core.Path.{subst}
 use mathlib.Core.List.{List}
 use lib.ListN.{length}
 use Rattle.answer.specs.Text.{Printed}

@@ -1,7 +1,6 @@
 -- `answer::rows_written` meets its contract. Each arm is a case of the definition.
 -- Assumes nothing.
-use Prim.Native.Nat.{ℕ, _-_}
-use mathlib.Core.Path.{_≡_, refl, sym, ap, _∙_}
+use Prim.Native.Nat.{_-_}
 use native.Mathlib.Omega.{arith}
 use Rattle.answer.specs.Answered.{rowsOf}
 use borrow.Author.Needs.{needs}

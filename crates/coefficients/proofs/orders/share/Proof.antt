@@ -1,6 +1,6 @@
 -- `coefficients::orders::share` meets its contract. It is the definition, one call for each part.
 -- Assumes nothing.
-use Prim.Native.Nat.{ℕ, _*_, _^_, _<_}
+use Prim.Native.Nat.{_*_, _^_, _<_}
 use mathlib.Core.Path.{_≡_, ap₂, _∙_}
 use lib.IntN.{ℤ, natAbs}
 use mir.Syntax.{w64}

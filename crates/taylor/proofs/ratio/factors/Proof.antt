@@ -2,7 +2,6 @@
 -- Assumes nothing.
 use borrow.Author.Tests.{eq-eqb, ne-eqb}
 use Rattle.model.specs.Step.{factors}
-use borrow.Author.Needs.{needs}
 use Rattle.taylor.proofs.ratio.factors.Statement.{statement}
 use Rattle.taylor.proofs.ratio.factors.Tie as tie
 

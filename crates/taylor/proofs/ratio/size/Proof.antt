@@ -1,11 +1,11 @@
 -- `taylor::ratio::size` meets its contract. The three sums of |A| are those of the target.
 -- Assumes nothing.
-use Prim.Native.Nat.{ℕ, _+_, _*_, _^_, _≤_, _<_}
-use mathlib.Core.Path.{_≡_, refl, sym, ap, ap₂, _∙_}
+use Prim.Native.Nat.{ℕ, _+_, _*_}
+use mathlib.Core.Path.{_≡_, ap}
 use mathlib.Core.List.{List}
 use native.Mathlib.Omega.{arith}
 use Rattle.rounding.specs.Rounding.{up}
-use Rattle.model.specs.Sheet.{scale, most}
+use Rattle.model.specs.Sheet.{scale}
 use Rattle.model.specs.Step as rule
 use Rattle.model.specs.declared.Term.{Term}
 use Rattle.model.proofs.RatioNumbers.{coefs-le, greatest-coefs-fit, size-fits}

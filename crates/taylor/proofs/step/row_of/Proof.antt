@@ -1,7 +1,7 @@
 -- `taylor::step::row_of` meets its contract. The table is filled, and its row is the definition's.
 -- Assumes nothing.
 use Prim.Native.Nat.{ℕ, _^_, _≤_, _<_}
-use mathlib.Core.Path.{_≡_, refl, sym, ap, _∙_, subst}
+use mathlib.Core.Path.{_≡_, refl, _∙_, subst}
 use mathlib.Core.List.{List}
 use native.Mathlib.Omega.{arith}
 use lib.IntN.{ℤ}
@@ -14,12 +14,11 @@ use Rattle.model.specs.declared.Ball.{Ball}
 use Rattle.model.specs.declared.Term.{Term}
 use Rattle.model.proofs.Bounds.{InBounds, greatest-le-most}
 use Rattle.model.proofs.Degree.{IsDegree, degree-is-least}
-use Rattle.coefficients.specs.Layout.{quantities, ballIn, ballsIn, termsIn, tableIn, startIn, Filled}
+use Rattle.coefficients.specs.Layout.{quantities, ballIn, ballsIn, tableIn, startIn, Filled}
 use Rattle.taylor.proofs.Balls.{length-balls, getD-balls}
 use Rattle.taylor.proofs.StepRow.{start-is, row-is}
 use Rattle.coefficients.proofs.Filling.{start-filled}
 use Rattle.coefficients.proofs.Filled.{filled-small}
-use borrow.Author.Needs.{needs}
 use Rattle.taylor.proofs.step.row_of.Statement.{statement}
 use Rattle.taylor.proofs.step.row_of.Tie as tie
 

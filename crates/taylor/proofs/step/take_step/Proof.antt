@@ -1,21 +1,19 @@
 -- `taylor::step::take_step` meets its contract. Question after question, as the definition asks them.
 -- Assumes nothing.
 use Prim.Native.Nat.{ℕ, _≤_, _<_}
-use mathlib.Core.Bool.{Bool, true, false}
-use mathlib.Core.Path.{_≡_, refl, sym, ap, _∙_}
-use native.Mathlib.Omega.{arith}
+use mathlib.Core.Bool.{true}
+use mathlib.Core.Path.{_≡_, sym, _∙_}
 use borrow.Author.Tests.{not-true, not-false, leb-true}
 use lib.Dec.{leb}
 use mir.Facts.{toZ-ofZ}
 use Rattle.model.specs.Range.{every}
-use Rattle.model.specs.Sheet.{scale, most}
+use Rattle.model.specs.Sheet.{most}
 use Rattle.model.specs.Step.{reach, greatest, ratio}
 use Rattle.model.specs.Passage.{most-ratio}
 use Rattle.model.proofs.Verdicts.{every-holds}
 use Rattle.coefficients.specs.Layout.{quantities, ballIn, ballsIn, termsIn, total, most-total}
 use Rattle.coefficients.proofs.Terms.{terms-numbered}
 use Rattle.taylor.proofs.Answers.{too-large, too-fast, intolerable, moved, greatest-within, in-bounds}
-use borrow.Author.Needs.{needs}
 use Rattle.taylor.proofs.step.take_step.Statement.{statement}
 use Rattle.taylor.proofs.step.take_step.Tie as tie
 

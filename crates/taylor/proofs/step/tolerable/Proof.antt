@@ -1,8 +1,8 @@
 -- `taylor::step::tolerable` meets its contract. The loop stops at the first radius over the tolerance.
 -- Assumes nothing.
-use Prim.Native.Nat.{ℕ, suc, _+_, _-_, _*_, _≤_, _<_}
-use mathlib.Core.Bool.{Bool, true, false}
-use mathlib.Core.Path.{_≡_, refl, sym, ap, _∙_}
+use Prim.Native.Nat.{ℕ, _-_, _≤_}
+use mathlib.Core.Bool.{Bool, true}
+use mathlib.Core.Path.{_≡_, sym, ap, _∙_}
 use mathlib.Core.List.{List}
 use native.Mathlib.Omega.{arith}
 use borrow.Author.Tests.{le-leb, lt-leb}
@@ -11,7 +11,6 @@ use lib.ListN.{getD}
 use Rattle.model.specs.Range as range
 use Rattle.coefficients.specs.Layout.{quantities}
 use Rattle.taylor.proofs.Tests.{every-none, every-more, every-fails}
-use borrow.Author.Needs.{needs}
 use Rattle.taylor.proofs.step.tolerable.Statement.{statement}
 use Rattle.taylor.proofs.step.tolerable.Tie as tie
 
