@@ -2,6 +2,8 @@
 //
 // The values and radii of up to 8 quantities, and the terms of up to 32, are flat arrays, lent. A table of coefficients
 // has a place for each of 8 quantities and orders 0 to 28, the orders of one quantity side by side.
+use model::QUANTITIES;
+
 mod orders;
 mod row;
 
@@ -9,8 +11,8 @@ pub use orders::fill_orders;
 pub use orders::start_orders;
 pub use row::new_row;
 
-// One whole, in units.
-pub const SCALE: u64 = 16777216;
-
 // Orders 0 to 28 of one quantity.
 const ORDERS: usize = 29;
+
+// The places of a table.
+pub const PLACES: usize = QUANTITIES * ORDERS;

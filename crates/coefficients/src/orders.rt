@@ -12,8 +12,11 @@ ghost use Rattle.model.specs.Step as rule;
 ghost use Rattle.model.proofs.Bounds.{InBounds};
 ghost use Rattle.coefficients.specs.Layout.{quantities, ballIn, ballAt, termsIn, sumsTo, tableIn, startIn, Table, Small, Written, closed, Closed, NothingPast, Filled, Numbered};
 use crate::ORDERS;
-use crate::SCALE;
+use crate::PLACES;
 use model::Ball;
+use model::QUANTITIES;
+use model::SCALE;
+use model::TERMS;
 use rounding::magnitude;
 use rounding::near;
 use rounding::near_product;
@@ -37,8 +40,8 @@ fn with_product(sum: Ball, a: i64, b: i64, reach: u64, other: u64) -> Ball
 
 // S and F of two factors at order k.
 fn convolution(
-    values: &[i64; 232],
-    reaches: &[u64; 232],
+    values: &[i64; PLACES],
+    reaches: &[u64; PLACES],
     k: usize,
     first: usize,
     second: usize,
@@ -68,7 +71,7 @@ fn convolution(
 }
 
 // c_k and e_k of a factor: an absent one is s at order 0 and 0 after.
-fn factor(values: &[i64; 232], reaches: &[u64; 232], k: usize, number: usize) -> Ball
+fn factor(values: &[i64; PLACES], reaches: &[u64; PLACES], k: usize, number: usize) -> Ball
     requires { ⌜ Small k (now values) (now reaches) ⌝ }
     requires { ⌜ k < 28 ⌝ }
     requires { ⌜ number ≤ quantities ⌝ }
@@ -77,7 +80,7 @@ fn factor(values: &[i64; 232], reaches: &[u64; 232], k: usize, number: usize) ->
     if number == 0 {
         if k == 0 {
             return Ball {
-                value: 16777216,
+                value: SCALE as i64,
                 radius: 0,
             };
         }
@@ -96,8 +99,8 @@ fn factor(values: &[i64; 232], reaches: &[u64; 232], k: usize, number: usize) ->
 
 // S and F of a term's factors at order k.
 fn products(
-    values: &[i64; 232],
-    reaches: &[u64; 232],
+    values: &[i64; PLACES],
+    reaches: &[u64; PLACES],
     k: usize,
     first: usize,
     second: usize,
@@ -133,8 +136,8 @@ fn share(
     a: i64,
     first: usize,
     second: usize,
-    values: &[i64; 232],
-    reaches: &[u64; 232],
+    values: &[i64; PLACES],
+    reaches: &[u64; PLACES],
 ) -> Ball
     requires { ⌜ Small k (now values) (now reaches) ⌝ }
     requires { ⌜ k < 28 ⌝ }
@@ -148,7 +151,12 @@ fn share(
 }
 
 // A share more in the sums of v and g of a target.
-fn add_share(target: usize, share: Ball, sums: &mut [i64; 8], radii: &mut [u64; 8])
+fn add_share(
+    target: usize,
+    share: Ball,
+    sums: &mut [i64; QUANTITIES],
+    radii: &mut [u64; QUANTITIES],
+)
     requires { ⌜ target < quantities ⌝ }
     requires { ⌜ natAbs (getD (now sums) target (pos 0) +ℤ share .value) < 2 ^ 63 ⌝ }
     requires { ⌜ getD (now radii) target 0 + share .radius < 2 ^ 64 ⌝ }
@@ -166,14 +174,14 @@ fn add_shares(
     step: i64,
     k: usize,
     terms: usize,
-    to: &[usize; 32],
-    coef: &[i64; 32],
-    first: &[usize; 32],
-    second: &[usize; 32],
-    values: &[i64; 232],
-    reaches: &[u64; 232],
-    sums: &mut [i64; 8],
-    radii: &mut [u64; 8],
+    to: &[usize; TERMS],
+    coef: &[i64; TERMS],
+    first: &[usize; TERMS],
+    second: &[usize; TERMS],
+    values: &[i64; PLACES],
+    reaches: &[u64; PLACES],
+    sums: &mut [i64; QUANTITIES],
+    radii: &mut [u64; QUANTITIES],
 )
     requires { ⌜ InBounds (termsIn terms (now to) (now coef) (now first) (now second)) step (startIn n (now values) (now reaches)) ⌝ }
     requires { ⌜ Filled (termsIn terms (now to) (now coef) (now first) (now second)) step n k (now values) (now reaches) ⌝ }
@@ -199,8 +207,8 @@ fn close_coefficient(
     k: usize,
     sum: i64,
     radius: u64,
-    values: &mut [i64; 232],
-    reaches: &mut [u64; 232],
+    values: &mut [i64; PLACES],
+    reaches: &mut [u64; PLACES],
 )
     requires { ⌜ (i < quantities) × (k < 28) ⌝ }
     requires { ⌜ natAbs sum + radius < 2 ^ 62 ⌝ }
@@ -218,10 +226,10 @@ fn close_coefficient(
 fn close_order(
     n: usize,
     k: usize,
-    sums: &[i64; 8],
-    radii: &[u64; 8],
-    values: &mut [i64; 232],
-    reaches: &mut [u64; 232],
+    sums: &[i64; QUANTITIES],
+    radii: &[u64; QUANTITIES],
+    values: &mut [i64; PLACES],
+    reaches: &mut [u64; PLACES],
 )
     requires { ⌜ (n ≤ quantities) × (k < 28) ⌝ }
     requires { ⌜ ((i : ℕ) → i < n → rule.reach (ballIn (now sums) (now radii) i) < 2 ^ 62) ⌝ }
@@ -242,12 +250,12 @@ fn next_order(
     step: i64,
     k: usize,
     terms: usize,
-    to: &[usize; 32],
-    coef: &[i64; 32],
-    first: &[usize; 32],
-    second: &[usize; 32],
-    values: &mut [i64; 232],
-    reaches: &mut [u64; 232],
+    to: &[usize; TERMS],
+    coef: &[i64; TERMS],
+    first: &[usize; TERMS],
+    second: &[usize; TERMS],
+    values: &mut [i64; PLACES],
+    reaches: &mut [u64; PLACES],
 )
     requires { ⌜ InBounds (termsIn terms (now to) (now coef) (now first) (now second)) step (startIn n (now values) (now reaches)) ⌝ }
     requires { ⌜ Filled (termsIn terms (now to) (now coef) (now first) (now second)) step n k (now values) (now reaches) ⌝ }
@@ -256,8 +264,8 @@ fn next_order(
     ensures { λ _. ⌜ startIn n (now (values .exit)) (now (reaches .exit)) ≡ startIn n (now (values .entry)) (now (reaches .entry)) ⌝ }
     ensures { λ _. ⌜ Filled (termsIn terms (now (to .entry)) (now (coef .entry)) (now (first .entry)) (now (second .entry))) step n (suc k) (now (values .exit)) (now (reaches .exit)) ⌝ }
 {
-    let mut sums = [0i64; 8];
-    let mut radii = [0u64; 8];
+    let mut sums = [0i64; QUANTITIES];
+    let mut radii = [0u64; QUANTITIES];
     add_shares(
         n,
         step,
@@ -281,12 +289,12 @@ pub fn fill_orders(
     step: i64,
     degree: usize,
     terms: usize,
-    to: &[usize; 32],
-    coef: &[i64; 32],
-    first: &[usize; 32],
-    second: &[usize; 32],
-    values: &mut [i64; 232],
-    reaches: &mut [u64; 232],
+    to: &[usize; TERMS],
+    coef: &[i64; TERMS],
+    first: &[usize; TERMS],
+    second: &[usize; TERMS],
+    values: &mut [i64; PLACES],
+    reaches: &mut [u64; PLACES],
 )
     requires { ⌜ InBounds (termsIn terms (now to) (now coef) (now first) (now second)) step (startIn n (now values) (now reaches)) ⌝ }
     requires { ⌜ Filled (termsIn terms (now to) (now coef) (now first) (now second)) step n 0 (now values) (now reaches) ⌝ }
@@ -305,10 +313,10 @@ pub fn fill_orders(
 // Order 0: the values and radii that the step starts from, in a table of zeros.
 pub fn start_orders(
     n: usize,
-    start: &[i64; 8],
-    radii: &[u64; 8],
-    values: &mut [i64; 232],
-    reaches: &mut [u64; 232],
+    start: &[i64; QUANTITIES],
+    radii: &[u64; QUANTITIES],
+    values: &mut [i64; PLACES],
+    reaches: &mut [u64; PLACES],
 )
     requires { ⌜ n ≤ quantities ⌝ }
     requires { ⌜ ((i : ℕ) → i < n → rule.reach (ballIn (now start) (now radii) i) ≤ most) ⌝ }

@@ -6,11 +6,19 @@ ghost use Rattle.model.specs.Range.{tabulate};
 ghost use Rattle.model.specs.Step as rule;
 ghost use Rattle.coefficients.specs.Layout.{quantities, ballsIn, tableIn, Small};
 use crate::ORDERS;
+use crate::PLACES;
 use model::Ball;
+use model::QUANTITIES;
 use rounding::magnitude;
 
 // The sums of c_0..c_degree and of e_0..e_degree of quantity i, and the tail.
-fn new_ball(degree: usize, tail: u64, i: usize, values: &[i64; 232], reaches: &[u64; 232]) -> Ball
+fn new_ball(
+    degree: usize,
+    tail: u64,
+    i: usize,
+    values: &[i64; PLACES],
+    reaches: &[u64; PLACES],
+) -> Ball
     requires { ⌜ (degree ≤ 28) × (i < quantities) ⌝ }
     requires { ⌜ tail ≤ 2 ^ 32 ⌝ }
     requires { ⌜ Small degree (now values) (now reaches) ⌝ }
@@ -34,10 +42,10 @@ pub fn new_row(
     n: usize,
     degree: usize,
     tail: u64,
-    values: &[i64; 232],
-    reaches: &[u64; 232],
-    row: &mut [i64; 8],
-    radii: &mut [u64; 8],
+    values: &[i64; PLACES],
+    reaches: &[u64; PLACES],
+    row: &mut [i64; QUANTITIES],
+    radii: &mut [u64; QUANTITIES],
 )
     requires { ⌜ (n ≤ quantities) × (degree ≤ 28) ⌝ }
     requires { ⌜ tail ≤ 2 ^ 32 ⌝ }

@@ -1,6 +1,17 @@
 // The records of document 01: a sheet as numbers, and what comes of one. Here are only the types, over which specs/
 // says what document 01 means; the code that is proved against it is in the crates above.
 
+// s: so many units make one whole.
+pub const SCALE: u64 = 16777216;
+
+// 32 wholes.
+pub const MOST: u64 = 536870912;
+
+// The most quantities and the most terms of a sheet.
+pub const QUANTITIES: usize = 8;
+
+pub const TERMS: usize = 32;
+
 // A start in units, or no reading.
 pub enum Start {
     Reading(i64),
@@ -29,9 +40,9 @@ pub struct Sheet {
     pub step: i64,
     pub tail: u64,
     pub tol: u64,
-    pub quantity: [Quantity; 8],
+    pub quantity: [Quantity; QUANTITIES],
     pub terms: usize,
-    pub term: [Term; 32],
+    pub term: [Term; TERMS],
 }
 
 // A value with its radius, in units.

@@ -3,26 +3,28 @@ ghost use mathlib.Core.Path.{_≡_};
 ghost use Prim.Native.Nat.{_≤_};
 ghost use Rattle.model.specs.Passage as passage;
 ghost use Rattle.coefficients.specs.Layout.{ballsIn, termsIn};
+use model::QUANTITIES;
 use model::Sheet;
 use model::Start;
+use model::TERMS;
 use taylor::Balls;
 
 // The terms' targets, coefficients and factors.
 pub struct Terms {
-    pub to: [usize; 32],
-    pub coef: [i64; 32],
-    pub first: [usize; 32],
-    pub second: [usize; 32],
+    pub to: [usize; TERMS],
+    pub coef: [i64; TERMS],
+    pub first: [usize; TERMS],
+    pub second: [usize; TERMS],
 }
 
 pub fn terms_of(sheet: Sheet) -> Terms
     requires { ⌜ sheet .terms ≤ 32 ⌝ }
     ensures { λ r. ⌜ termsIn (sheet .terms) (r .to) (r .coef) (r .first) (r .second) ≡ passage.termsOf sheet ⌝ }
 {
-    let mut to = [0usize; 32];
-    let mut coef = [0i64; 32];
-    let mut first = [0usize; 32];
-    let mut second = [0usize; 32];
+    let mut to = [0usize; TERMS];
+    let mut coef = [0i64; TERMS];
+    let mut first = [0usize; TERMS];
+    let mut second = [0usize; TERMS];
     let count = sheet.terms;
     let mut j = 0;
     while j < count {
@@ -56,8 +58,8 @@ pub fn starts_of(sheet: Sheet) -> Balls
     requires { ⌜ sheet .n ≤ 8 ⌝ }
     ensures { λ r. ⌜ ballsIn (sheet .n) (r .values) (r .radii) ≡ passage.startsOf sheet ⌝ }
 {
-    let mut values = [0i64; 8];
-    let mut radii = [0u64; 8];
+    let mut values = [0i64; QUANTITIES];
+    let mut radii = [0u64; QUANTITIES];
     let n = sheet.n;
     let mut i = 0;
     while i < n {

@@ -13,8 +13,10 @@ ghost use Rattle.passage.specs.Promise.{Kept, TrustedRows};
 use crate::layout::starts_of;
 use crate::layout::terms_of;
 use model::Outcome;
+use model::QUANTITIES;
 use model::Refusal;
 use model::Sheet;
+use model::TERMS;
 use sheet::verdict::verdict;
 use taylor::Advance;
 use taylor::Balls;
@@ -29,7 +31,7 @@ fn width(n: usize) -> usize
 }
 
 // Puts values from place `at` on.
-fn put_values(n: usize, values: &[i64; 8], at: usize, rows: &mut [i64])
+fn put_values(n: usize, values: &[i64; QUANTITIES], at: usize, rows: &mut [i64])
     requires { ⌜ n ≤ quantities ⌝ }
     requires { ⌜ at + n ≤ length (now rows) ⌝ }
     ensures { λ _. ⌜ now (rows .exit) ≡ sets (now (rows .entry)) at (tabulate n (λ i. getD (now (values .entry)) i (pos 0))) ⌝ }
@@ -43,7 +45,7 @@ fn put_values(n: usize, values: &[i64; 8], at: usize, rows: &mut [i64])
 }
 
 // Puts radii from place `at` on.
-fn put_radii(n: usize, radii: &[u64; 8], at: usize, rows: &mut [i64])
+fn put_radii(n: usize, radii: &[u64; QUANTITIES], at: usize, rows: &mut [i64])
     requires { ⌜ n ≤ quantities ⌝ }
     requires { ⌜ at + n ≤ length (now rows) ⌝ }
     requires { ⌜ ((i : ℕ) → i < n → getD (now radii) i 0 < 2 ^ 63) ⌝ }
@@ -60,8 +62,8 @@ fn put_radii(n: usize, radii: &[u64; 8], at: usize, rows: &mut [i64])
 fn put_row(
     n: usize,
     degree: usize,
-    values: &[i64; 8],
-    radii: &[u64; 8],
+    values: &[i64; QUANTITIES],
+    radii: &[u64; QUANTITIES],
     at: usize,
     rows: &mut [i64],
 )
@@ -84,10 +86,10 @@ fn run_steps(
     limit: u64,
     tol: u64,
     terms: usize,
-    to: &[usize; 32],
-    coef: &[i64; 32],
-    first: &[usize; 32],
-    second: &[usize; 32],
+    to: &[usize; TERMS],
+    coef: &[i64; TERMS],
+    first: &[usize; TERMS],
+    second: &[usize; TERMS],
     start: Balls,
     rows: &mut [i64],
 ) -> Outcome

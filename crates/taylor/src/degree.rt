@@ -4,7 +4,7 @@ ghost use Prim.Native.Nat.{_≤_};
 ghost use Rattle.model.specs.Sheet.{most};
 ghost use Rattle.model.specs.Step.{degree, tailAt};
 ghost use Rattle.model.specs.Passage.{«most-ratio»};
-use coefficients::SCALE;
+use model::SCALE;
 use rounding::up;
 
 // The degree of a step and its tail.

@@ -6,7 +6,9 @@ ghost use Rattle.model.specs.Sheet.{scale, most};
 ghost use Rattle.model.specs.Range.{largest};
 ghost use Rattle.model.specs.Step as rule;
 ghost use Rattle.coefficients.specs.Layout.{ballIn, ballsIn, termsIn, total, «most-total»};
-use coefficients::SCALE;
+use model::QUANTITIES;
+use model::SCALE;
+use model::TERMS;
 use rounding::magnitude;
 use rounding::up;
 
@@ -18,7 +20,7 @@ fn larger(a: u64, b: u64) -> u64
 }
 
 // G, the largest of s and every |value| + radius.
-pub fn greatest(n: usize, values: &[i64; 8], radii: &[u64; 8]) -> u64
+pub fn greatest(n: usize, values: &[i64; QUANTITIES], radii: &[u64; QUANTITIES]) -> u64
     requires { ⌜ n ≤ 8 ⌝ }
     requires { ⌜ ((i : ℕ) → i < n → rule.reach (ballIn (now values) (now radii) i) ≤ most) ⌝ }
     ensures { λ r. ⌜ r ≡ rule.greatest (ballsIn n (now (values .entry)) (now (radii .entry))) ⌝ }
@@ -64,10 +66,10 @@ fn coefs(
     target: usize,
     count: usize,
     terms: usize,
-    to: &[usize; 32],
-    coef: &[i64; 32],
-    first: &[usize; 32],
-    second: &[usize; 32],
+    to: &[usize; TERMS],
+    coef: &[i64; TERMS],
+    first: &[usize; TERMS],
+    second: &[usize; TERMS],
 ) -> u64
     requires { ⌜ terms ≤ 32 ⌝ }
     requires { ⌜ total (termsIn terms (now to) (now coef) (now first) (now second)) ≤ most-total ⌝ }
@@ -88,10 +90,10 @@ fn size(
     target: usize,
     greatest: u64,
     terms: usize,
-    to: &[usize; 32],
-    coef: &[i64; 32],
-    first: &[usize; 32],
-    second: &[usize; 32],
+    to: &[usize; TERMS],
+    coef: &[i64; TERMS],
+    first: &[usize; TERMS],
+    second: &[usize; TERMS],
 ) -> u64
     requires { ⌜ terms ≤ 32 ⌝ }
     requires { ⌜ total (termsIn terms (now to) (now coef) (now first) (now second)) ≤ most-total ⌝ }
@@ -109,10 +111,10 @@ fn largest_size(
     n: usize,
     greatest: u64,
     terms: usize,
-    to: &[usize; 32],
-    coef: &[i64; 32],
-    first: &[usize; 32],
-    second: &[usize; 32],
+    to: &[usize; TERMS],
+    coef: &[i64; TERMS],
+    first: &[usize; TERMS],
+    second: &[usize; TERMS],
 ) -> u64
     requires { ⌜ n ≤ 8 ⌝ }
     requires { ⌜ terms ≤ 32 ⌝ }
@@ -135,10 +137,10 @@ pub fn ratio(
     step: i64,
     greatest: u64,
     terms: usize,
-    to: &[usize; 32],
-    coef: &[i64; 32],
-    first: &[usize; 32],
-    second: &[usize; 32],
+    to: &[usize; TERMS],
+    coef: &[i64; TERMS],
+    first: &[usize; TERMS],
+    second: &[usize; TERMS],
 ) -> u64
     requires { ⌜ n ≤ 8 ⌝ }
     requires { ⌜ terms ≤ 32 ⌝ }

@@ -13,22 +13,23 @@ ghost use Rattle.taylor.specs.Step.{StepIs};
 use crate::degree::truncate;
 use crate::ratio::greatest;
 use crate::ratio::ratio;
+use coefficients::PLACES;
 use coefficients::fill_orders;
 use coefficients::new_row;
 use coefficients::start_orders;
+use model::MOST;
+use model::QUANTITIES;
 use model::Refusal;
+use model::TERMS;
 use rounding::magnitude;
-
-// 32 wholes.
-const MOST: u64 = 536870912;
 
 // One half, in units.
 const MOST_RATIO: u64 = 8388608;
 
 // The values and radii of up to 8 quantities.
 pub struct Balls {
-    pub values: [i64; 8],
-    pub radii: [u64; 8],
+    pub values: [i64; QUANTITIES],
+    pub radii: [u64; QUANTITIES],
 }
 
 // A row: its degree, and its values and radii.
@@ -50,7 +51,7 @@ pub struct Stepped {
 }
 
 // Question 4: is |value| + radius at most 32 wholes for every quantity?
-fn small(n: usize, values: &[i64; 8], radii: &[u64; 8]) -> bool
+fn small(n: usize, values: &[i64; QUANTITIES], radii: &[u64; QUANTITIES]) -> bool
     requires { ⌜ n ≤ quantities ⌝ }
     ensures { λ r. ⌜ r ≡ every n (λ i. leb (rule.reach (ballIn (now (values .entry)) (now (radii .entry)) i)) most) ⌝ }
 {
@@ -70,7 +71,7 @@ fn small(n: usize, values: &[i64; 8], radii: &[u64; 8]) -> bool
 }
 
 // Question 6: is every radius at most the tolerance?
-fn tolerable(n: usize, tol: u64, radii: &[u64; 8]) -> bool
+fn tolerable(n: usize, tol: u64, radii: &[u64; QUANTITIES]) -> bool
     requires { ⌜ n ≤ quantities ⌝ }
     ensures { λ r. ⌜ r ≡ every n (λ i. leb (getD (now (radii .entry)) i 0) tol) ⌝ }
 {
@@ -92,12 +93,12 @@ fn row_of(
     greatest: u64,
     ratio: u64,
     terms: usize,
-    to: &[usize; 32],
-    coef: &[i64; 32],
-    first: &[usize; 32],
-    second: &[usize; 32],
-    values: &[i64; 8],
-    radii: &[u64; 8],
+    to: &[usize; TERMS],
+    coef: &[i64; TERMS],
+    first: &[usize; TERMS],
+    second: &[usize; TERMS],
+    values: &[i64; QUANTITIES],
+    radii: &[u64; QUANTITIES],
 ) -> Row
     requires { ⌜ InBounds (termsIn terms (now to) (now coef) (now first) (now second)) step (ballsIn n (now values) (now radii)) ⌝ }
     requires { ⌜ Numbered terms (now first) (now second) ⌝ }
@@ -108,8 +109,8 @@ fn row_of(
 {
     let cut = truncate(greatest, ratio, limit);
     let degree = cut.degree;
-    let mut table = [0i64; 232];
-    let mut reaches = [0u64; 232];
+    let mut table = [0i64; PLACES];
+    let mut reaches = [0u64; PLACES];
     start_orders(n, values, radii, &mut table, &mut reaches);
     fill_orders(
         n,
@@ -123,8 +124,8 @@ fn row_of(
         &mut table,
         &mut reaches,
     );
-    let mut row = [0i64; 8];
-    let mut row_radii = [0u64; 8];
+    let mut row = [0i64; QUANTITIES];
+    let mut row_radii = [0u64; QUANTITIES];
     new_row(
         n,
         degree,
@@ -150,10 +151,10 @@ pub fn take_step(
     limit: u64,
     tol: u64,
     terms: usize,
-    to: &[usize; 32],
-    coef: &[i64; 32],
-    first: &[usize; 32],
-    second: &[usize; 32],
+    to: &[usize; TERMS],
+    coef: &[i64; TERMS],
+    first: &[usize; TERMS],
+    second: &[usize; TERMS],
     start: Balls,
 ) -> Stepped
     requires { ⌜ TermsInBounds (termsIn terms (now to) (now coef) (now first) (now second)) step n ⌝ }

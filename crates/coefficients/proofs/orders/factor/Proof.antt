@@ -11,6 +11,7 @@ use lib.ListN.{getD}
 use mir.Syntax.{w64}
 use mir.Val.{SFits, toZ, ofZ}
 use mir.Facts.{toZ-ofZ}
+use Rattle.rounding.proofs.Machine.{magnitude-is}
 use Rattle.model.specs.Sheet.{scale}
 use Rattle.model.specs.Step.{Coefficients, no-ball, factor}
 use Rattle.model.specs.declared.Ball.{Ball}
@@ -32,14 +33,14 @@ absent-after table {k} p q = rw p (go k q)
     go zero q = absurd (q refl)
     go (suc k) q = refl
 
-abs-kept : {z : ℤ} {m : ℕ} → SFits w64 z → m ≡ natAbs (toZ w64 (ofZ w64 z)) → m ≡ natAbs z
-abs-kept fits e = rw (toZ-ofZ fits) at e
-
 present : (values : List ℤ) (reaches : List ℕ) (k number : ℕ) {m : ℕ} → number ≢ 0 → number ≤ quantities → SFits w64 (getD values ((number - 1) * 29 + k) (pos 0)) → m ≡ natAbs (toZ w64 (ofZ w64 (getD values ((number - 1) * 29 + k) (pos 0)))) →
     _≡_ {A = Ball} (record { value = toZ w64 (ofZ w64 (getD values ((number - 1) * 29 + k) (pos 0))); radius = getD reaches ((number - 1) * 29 + k) 0 - m }) (factor (tableIn k values reaches) k number)
 unfolding ballAt place orders
 present values reaches k number p high fits e =
-    ball-equal (toZ-ofZ fits) (ap (λ (m : ℕ). getD reaches ((number - 1) * 29 + k) 0 - m) (abs-kept fits e)) ∙ sym (factor-in k values reaches k (le-refl k) number (omega (arith, p), high))
+    ball-equal (toZ-ofZ fits) (ap (λ (m : ℕ). getD reaches ((number - 1) * 29 + k) 0 - m) (magnitude-is fits e)) ∙ sym (factor-in k values reaches k (le-refl k) number (omega (arith, p), high))
+
+cast-t9 : tie.Need-cast-t9
+cast-t9 c = search needs
 
 returns : tie.Need-returns
 returns c = absent-at-start _ (c .before .if1 .taken) (c .if2 .taken)
@@ -66,22 +67,22 @@ element-copy-out-c : tie.Need-element-copy-out-c
 unfolding quantities
 element-copy-out-c c = omega (arith, c .before .pre .1, c .if1 .left)
 
-mul-t10 : tie.Need-mul-t10
+mul-t11 : tie.Need-mul-t11
 unfolding quantities
-mul-t10 c = omega (arith, c .before .before .pre .1)
+mul-t11 c = omega (arith, c .before .before .pre .1)
 
-element-copy-out-t16 : tie.Need-element-copy-out-t16
+element-copy-out-t17 : tie.Need-element-copy-out-t17
 unfolding quantities
-element-copy-out-t16 c = omega (arith, c .before .before .pre .1, c .before .if1 .left)
+element-copy-out-t17 c = omega (arith, c .before .before .pre .1, c .before .if1 .left)
 
 magnitude-requires : tie.Need-magnitude-requires
 magnitude-requires c κs = search needs
 
-sub-t18 : tie.Need-sub-t18
-sub-t18 c =
+sub-t19 : tie.Need-sub-t19
+sub-t19 c =
     let a = c .before .before .before .before in
     let read = getD (a .args .values .now) ((a .args .number - 1) * 29 + a .args .k) (pos 0) in
-    omega (arith, abs-kept {z = read} (record { sfits = c .before .before .c .given }) (c .magnitude .ensures), a .pre .0 .table .covered ((a .args .number - 1) * 29 + a .args .k))
+    omega (arith, magnitude-is {n = read} (record { sfits = c .before .before .c .given }) (c .magnitude .ensures), a .pre .0 .table .covered ((a .args .number - 1) * 29 + a .args .k))
 
 returns-3 : tie.Need-returns-3
 returns-3 c =
@@ -92,6 +93,7 @@ pub factor-spec : {M : Type 1} → statement M
 factor-spec =
     tie.close
     (tie.spec
+    cast-t9
     returns
     returns-2
     sub-at
@@ -99,8 +101,8 @@ factor-spec =
     add-at
     mul-c
     element-copy-out-c
-    mul-t10
-    element-copy-out-t16
+    mul-t11
+    element-copy-out-t17
     magnitude-requires
-    sub-t18
+    sub-t19
     returns-3)
