@@ -13,7 +13,7 @@ use Rattle.model.specs.declared.Outcome.{Outcome}
 use Rattle.model.specs.declared.Outcome.the-variants.{Accepted}
 use Rattle.model.proofs.SheetBounds.{positive-magnitude}
 use Rattle.model.proofs.Verdicts.{in-range, sheet-in-range}
-use Rattle.sheet.specs.Ranges.{outcome}
+use Rattle.sheet.specs.Verdicts.{outcome}
 use Rattle.sheet.proofs.Verdicts.{passes-as}
 
 -- the counts and limits of a sheet whose verdict passes

@@ -12,7 +12,10 @@ use lib.Seq.{length-take-le, take-suc-set, drop-set-lt, drop-drop}
 use Rattle.model.specs.Sheet.{padded}
 use Rattle.model.specs.Reading.{parsed, fault, Parser, return, _>>=_, times}
 use Rattle.model.specs.declared.Refusal.{Refusal}
-use Rattle.sheet.proofs.Parsers.{bind-parsed, bind-fault}
+use Rattle.model.specs.declared.Outcome.{Outcome}
+use Rattle.model.specs.declared.Outcome.the-variants.{Accepted, Refused}
+use Rattle.lines.proofs.Parsers.{bind-parsed, bind-fault}
+use Rattle.sheet.specs.Sheets.{filled}
 
 module _ {A : Type 0} (p : Parser A) (from : List ℕ) where
   one-more : (i : ℕ) {xs : List A} {x : A} {here next : List ℕ} → times i p from ≡ parsed xs here → p here ≡ parsed x next → times (suc i) p from ≡ parsed (xs ++ (x ∷ [])) next
@@ -61,3 +64,14 @@ module _ {A : Type 0} (p : Parser A) (size : ℕ) (none : A) (from : List ℕ) w
     where
       whole : take i list ++ replicate (size - length (take i list)) none ≡ list
       whole = rw (length-take-le i list (rw (f .long) (omega arith)), ← f .past) (take-append-drop i list)
+
+-- ---- the array that the reader hands back
+
+module _ {A : Type 0} (list : List A) (l : List ℕ) where
+  pub filled-accepted : {o : Outcome} → o ≡ Accepted → filled o list l ≡ parsed list l
+  unfolding filled
+  filled-accepted e = rw e
+
+  pub filled-refused : {o : Outcome} {r : Refusal} {step : ℕ} → o ≡ Refused r step → filled o list l ≡ fault r
+  unfolding filled
+  filled-refused e = rw e

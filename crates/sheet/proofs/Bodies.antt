@@ -11,10 +11,10 @@ use Rattle.model.specs.declared.Refusal.the-variants.{Misspelt}
 use Rattle.model.specs.declared.Quantity.{Quantity}
 use Rattle.model.specs.declared.Term.{Term}
 use Rattle.model.specs.declared.Sheet.{Sheet}
-use Rattle.sheet.specs.Places.{empty}
+use Rattle.lines.specs.Places.{empty}
 use Rattle.sheet.specs.Sheets.{head, HeadInRange, body, quantities, terms}
 use Rattle.sheet.specs.declared.reading.Head.{Head}
-use Rattle.sheet.proofs.Parsers.{bind-parsed, bind-fault, bound, mapped, mapped-fault, ends, goes-on, field-at-most}
+use Rattle.lines.proofs.Parsers.{bind-parsed, bind-fault, bound, mapped, mapped-fault, ends, goes-on, field-at-most}
 
 abbrev pub sheet-with : Head → List Quantity → ℕ → List Term → Sheet
 sheet-with head quantity count term =

@@ -1,19 +1,19 @@
 -- Questions one after the other, as outcomes: what an outcome says of the verdict that it stands for.
-use Prim.Native.Nat.{ℕ, zero, suc, _+_, _-_, _<_, _≤_}
+use Prim.Native.Nat.{ℕ, zero, suc, _+_, _<_, _≤_}
 use mathlib.Core.Path.{_≡_, refl, sym, ap, _∙_}
-use mathlib.Core.Bool.{Bool, true, false, not, _&&_}
+use mathlib.Core.Bool.{Bool, true, false, not}
 use native.Mathlib.Omega.{arith}
 use native.Mathlib.Numerals.{add-one}
-use borrow.Author.Tests.{leb-true, ltb-true, ltb-false, not-true, not-false}
-use lib.Dec.{leb, ltb}
+use borrow.Author.Tests.{ltb-true, ltb-false, not-true, not-false}
+use lib.Dec.{ltb}
 use lib.IntN.{ℤ, pos}
 use Rattle.model.specs.Sheet.{Verdict, passes, refuses, ask, _then_, inOrder, inRange, Limits, within, from_to_, n-limits, terms-limits, sheetVerdict}
 use Rattle.model.specs.declared.Sheet.{Sheet}
 use Rattle.model.specs.declared.Refusal.{Refusal}
-use Rattle.model.specs.declared.Refusal.the-variants.{OutOfRange}
 use Rattle.model.specs.declared.Outcome.{Outcome}
 use Rattle.model.specs.declared.Outcome.the-variants.{Accepted, Refused}
-use Rattle.sheet.specs.Ranges.{outcome, headVerdict, quantitiesVerdict, termsVerdict}
+use Rattle.model.proofs.Verdicts.{both-pass, in-range}
+use Rattle.sheet.specs.Verdicts.{outcome, headVerdict, quantitiesVerdict, termsVerdict}
 
 pub passes-as : (v : Verdict) {o : Outcome} → o ≡ outcome v → o ≡ Accepted → v ≡ passes
 unfolding outcome
@@ -78,27 +78,10 @@ in-parts sheet = simp then-assoc
 
 -- ---- what a number in its range is
 
-earlier-passes : (a later : Verdict) → passes ≡ (a then later) → a ≡ passes
-unfolding _then_
-earlier-passes passes later e = refl
-earlier-passes (refuses r) later e = absurd (let z : _≡_ {A = ℕ} 0 1 = cc in omega arith)
-
 pub at-most : (low high m : ℕ) → within (from low to high) (pos m) ≡ true → m ≤ high
-unfolding within from_to_
-at-most low high m h = go (leb low m) h
-  where
-    go : (b : Bool) → (b && leb m high) ≡ true → m ≤ high
-    go true e = leb-true m high e
-    go false e = absurd (let z : _≡_ {A = ℕ} 0 1 = cc in omega arith)
-
-within-of : (limits : Limits) (z : ℤ) → inRange limits z ≡ passes → within limits z ≡ true
 unfolding inRange ask
-within-of limits z e = go (within limits z) e
-  where
-    go : (b : Bool) → ask b OutOfRange ≡ passes → b ≡ true
-    go true e = refl
-    go false e = absurd (let z : _≡_ {A = ℕ} 0 1 = cc in omega arith)
+at-most low high m h = in-range {low = low} {high = high} m (rw h) .1
 
-pub head-passes : (sheet : Sheet) → passes ≡ headVerdict sheet → sheet .n ≤ 8
+pub head-passes : (sheet : Sheet) → headVerdict sheet ≡ passes → sheet .n ≤ 8
 unfolding headVerdict n-limits
-head-passes sheet e = at-most 1 8 (sheet .n) (within-of (from 1 to 8) (pos (sheet .n)) (earlier-passes (inRange (from 1 to 8) (pos (sheet .n))) _ e))
+head-passes sheet e = in-range {low = 1} {high = 8} (sheet .n) (both-pass (inRange (from 1 to 8) (pos (sheet .n))) _ e .0) .1

@@ -1,4 +1,2 @@
-pub mod Ranges
-pub mod Places
-pub mod Fields
+pub mod Verdicts
 pub mod Sheets

@@ -1,4 +1,5 @@
--- What the answers of the reader say of its text, for the parts of a sheet: a quantity, a term, the lines above them.
+-- What the answers of the reader say of its text, for the parts of a sheet: a start, a quantity, a term, the lines above
+-- them.
 use Prim.Native.Nat.{ℕ, _≤_}
 use mathlib.Core.List.{List}
 use lib.IntN.{pos}
@@ -7,10 +8,14 @@ use Rattle.model.specs.Sheet.{n-limits, steps-limits, step-limits, tail-limits,
 use Rattle.model.specs.Reading.{Parsed, parsed, fault, Parser, return, _>>=_, field, quantity, term, times, end}
 use Rattle.model.specs.declared.Outcome.{Outcome}
 use Rattle.model.specs.declared.Outcome.the-variants.{Accepted, Refused}
+use Rattle.model.specs.declared.Start.{Start}
+use Rattle.model.specs.declared.Start.the-variants.{Reading}
 use Rattle.model.specs.declared.Quantity.{Quantity}
 use Rattle.model.specs.declared.Term.{Term}
 use Rattle.model.specs.declared.Sheet.{Sheet}
-use Rattle.sheet.specs.Places.{rest}
+use Rattle.lines.specs.Places.{rest}
+use Rattle.lines.specs.declared.fields.WholeLine.{WholeLine}
+use Rattle.lines.specs.declared.fields.WholeLine.the-variants as whole
 use Rattle.sheet.specs.declared.reading.QuantityLines.{QuantityLines}
 use Rattle.sheet.specs.declared.reading.QuantityLines.the-variants as quantityLines
 use Rattle.sheet.specs.declared.reading.TermLines.{TermLines}
@@ -20,6 +25,10 @@ use Rattle.sheet.specs.declared.reading.Terms.{Terms}
 use Rattle.sheet.specs.declared.reading.Head.{Head}
 use Rattle.sheet.specs.declared.reading.HeadLines.{HeadLines}
 use Rattle.sheet.specs.declared.reading.HeadLines.the-variants as headLines
+
+unfoldable pub startRead : List ℕ → WholeLine → Parsed Start
+startRead text (whole.Holds field) = parsed (Reading (field .value)) (rest text (field .next))
+startRead text (whole.Fault r) = fault r
 
 unfoldable pub quantityRead : List ℕ → QuantityLines → Parsed Quantity
 quantityRead text (quantityLines.Hold quantity next) = parsed quantity (rest text next)

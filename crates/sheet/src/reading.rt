@@ -3,12 +3,13 @@ ghost use mathlib.Core.Path.{_≡_};
 ghost use Prim.Native.Nat.{_≤_};
 ghost use Rattle.model.specs.Reading as model;
 ghost use Rattle.model.specs.Sheet.{no-quantity, no-term};
-ghost use Rattle.sheet.specs.Places.{rest};
-ghost use Rattle.sheet.specs.Sheets.{quantityRead, termRead, headRead, head, HeadInRange, body, quantitiesRead, quantities, termsRead, terms};
-use crate::cursor::Cursor;
-use crate::fields::NaturalLine;
-use crate::fields::WholeLine;
+ghost use Rattle.lines.specs.Places.{rest};
+ghost use Rattle.sheet.specs.Sheets.{startRead, quantityRead, termRead, headRead, head, HeadInRange, body, quantitiesRead, quantities, termsRead, terms};
 use crate::limits;
+use lines::cursor::After;
+use lines::cursor::Cursor;
+use lines::fields::NaturalLine;
+use lines::fields::WholeLine;
 use model::Outcome;
 use model::Quantity;
 use model::Reading;
@@ -57,166 +58,174 @@ pub struct Terms {
     pub next: Cursor,
 }
 
-impl Cursor {
-    fn quantity(self, text: &[u8]) -> QuantityLines
-        ensures { λ r. ⌜ quantityRead (now (text .entry)) r ≡ model.quantity (rest (now (text .entry)) self) ⌝ }
-    {
-        let start = match self.start_field(text) {
-            WholeLine::Holds(field) => field,
-            WholeLine::Fault(refusal) => return QuantityLines::Fault(refusal),
-        };
-        let next = start.next;
-        let radius = match next.natural_field(text, b"radius=", limits::RADIUS) {
-            NaturalLine::Holds(field) => field,
-            NaturalLine::Fault(refusal) => return QuantityLines::Fault(refusal),
-        };
-        let end = radius.next;
-        QuantityLines::Hold(
-            Quantity {
-                start: Start::Reading(start.value),
-                radius: radius.value,
-            },
-            end,
-        )
+// `start` alone may read `none`: no reading.
+fn read_start(text: &[u8], from: Cursor) -> WholeLine
+    ensures { λ r. ⌜ startRead (now (text .entry)) r ≡ model.start (rest (now (text .entry)) from) ⌝ }
+{
+    if let After::Here(_) = from.after(text, b"start=none\n") {
+        return WholeLine::Fault(Refusal::NoReading);
     }
+    from.whole_field(text, b"start=", true, limits::START)
+}
 
-    fn term(self, text: &[u8], n: usize) -> TermLines
-        requires { ⌜ n ≤ 8 ⌝ }
-        ensures { λ r. ⌜ termRead (now (text .entry)) r ≡ model.term n (rest (now (text .entry)) self) ⌝ }
-    {
-        let to = match self.natural_field(text, b"to=", limits::to_limits(n)) {
-            NaturalLine::Holds(field) => field,
-            NaturalLine::Fault(refusal) => return TermLines::Fault(refusal),
-        };
-        let after_to = to.next;
-        let coef = match after_to.whole_field(text, b"coef=", true, limits::COEF) {
-            WholeLine::Holds(field) => field,
-            WholeLine::Fault(refusal) => return TermLines::Fault(refusal),
-        };
-        let after_coef = coef.next;
-        let first = match after_coef.natural_field(text, b"first=", limits::first_limits(n)) {
-            NaturalLine::Holds(field) => field,
-            NaturalLine::Fault(refusal) => return TermLines::Fault(refusal),
-        };
-        let after_first = first.next;
-        let factor = first.value as usize;
-        let second = match after_first.natural_field(
-            text,
-            b"second=",
-            limits::second_limits(n, factor),
-        ) {
-            NaturalLine::Holds(field) => field,
-            NaturalLine::Fault(refusal) => return TermLines::Fault(refusal),
-        };
-        let end = second.next;
-        TermLines::Hold(
-            Term {
-                to: to.value as usize,
-                coef: coef.value,
-                first: factor,
-                second: second.value as usize,
-            },
-            end,
-        )
-    }
+fn read_quantity(text: &[u8], from: Cursor) -> QuantityLines
+    ensures { λ r. ⌜ quantityRead (now (text .entry)) r ≡ model.quantity (rest (now (text .entry)) from) ⌝ }
+{
+    let start = match read_start(text, from) {
+        WholeLine::Holds(field) => field,
+        WholeLine::Fault(refusal) => return QuantityLines::Fault(refusal),
+    };
+    let next = start.next;
+    let radius = match next.natural_field(text, b"radius=", limits::RADIUS) {
+        NaturalLine::Holds(field) => field,
+        NaturalLine::Fault(refusal) => return QuantityLines::Fault(refusal),
+    };
+    let end = radius.next;
+    QuantityLines::Hold(
+        Quantity {
+            start: Start::Reading(start.value),
+            radius: radius.value,
+        },
+        end,
+    )
+}
 
-    fn head(self, text: &[u8]) -> HeadLines
-        ensures { λ r. ⌜ headRead (now (text .entry)) r ≡ head (rest (now (text .entry)) self) ⌝ }
-    {
-        let n = match self.natural_field(text, b"n=", limits::N) {
-            NaturalLine::Holds(field) => field,
-            NaturalLine::Fault(refusal) => return HeadLines::Fault(refusal),
-        };
-        let after_n = n.next;
-        let steps = match after_n.natural_field(text, b"steps=", limits::STEPS) {
-            NaturalLine::Holds(field) => field,
-            NaturalLine::Fault(refusal) => return HeadLines::Fault(refusal),
-        };
-        let after_steps = steps.next;
-        let step = match after_steps.natural_field(text, b"step=", limits::STEP) {
-            NaturalLine::Holds(field) => field,
-            NaturalLine::Fault(refusal) => return HeadLines::Fault(refusal),
-        };
-        let after_step = step.next;
-        let tail = match after_step.natural_field(text, b"tail=", limits::TAIL) {
-            NaturalLine::Holds(field) => field,
-            NaturalLine::Fault(refusal) => return HeadLines::Fault(refusal),
-        };
-        let after_tail = tail.next;
-        let tol = match after_tail.natural_field(text, b"tol=", limits::TOL) {
-            NaturalLine::Holds(field) => field,
-            NaturalLine::Fault(refusal) => return HeadLines::Fault(refusal),
-        };
-        let end = tol.next;
-        HeadLines::Hold(
-            Head {
-                n: n.value as usize,
-                steps: steps.value as usize,
-                step: step.value,
-                tail: tail.value,
-                tol: tol.value,
-            },
-            end,
-        )
-    }
+fn read_term(text: &[u8], n: usize, from: Cursor) -> TermLines
+    requires { ⌜ n ≤ 8 ⌝ }
+    ensures { λ r. ⌜ termRead (now (text .entry)) r ≡ model.term n (rest (now (text .entry)) from) ⌝ }
+{
+    let to = match from.natural_field(text, b"to=", limits::to_limits(n)) {
+        NaturalLine::Holds(field) => field,
+        NaturalLine::Fault(refusal) => return TermLines::Fault(refusal),
+    };
+    let after_to = to.next;
+    let coef = match after_to.whole_field(text, b"coef=", true, limits::COEF) {
+        WholeLine::Holds(field) => field,
+        WholeLine::Fault(refusal) => return TermLines::Fault(refusal),
+    };
+    let after_coef = coef.next;
+    let first = match after_coef.natural_field(text, b"first=", limits::first_limits(n)) {
+        NaturalLine::Holds(field) => field,
+        NaturalLine::Fault(refusal) => return TermLines::Fault(refusal),
+    };
+    let after_first = first.next;
+    let factor = first.value as usize;
+    let second = match after_first.natural_field(
+        text,
+        b"second=",
+        limits::second_limits(n, factor),
+    ) {
+        NaturalLine::Holds(field) => field,
+        NaturalLine::Fault(refusal) => return TermLines::Fault(refusal),
+    };
+    let end = second.next;
+    TermLines::Hold(
+        Term {
+            to: to.value as usize,
+            coef: coef.value,
+            first: factor,
+            second: second.value as usize,
+        },
+        end,
+    )
+}
 
-    fn quantities(self, text: &[u8], n: usize) -> Quantities
-        requires { ⌜ n ≤ 8 ⌝ }
-        ensures { λ r. ⌜ quantitiesRead (now (text .entry)) r ≡ quantities n (rest (now (text .entry)) self) ⌝ }
-    {
-        let none = no_quantity();
-        let mut list = [none; 8];
-        let mut cursor = self;
-        for i in 0..n {
-            match cursor.quantity(text) {
-                QuantityLines::Hold(quantity, next) => {
-                    list[i] = quantity;
-                    cursor = next;
-                }
-                QuantityLines::Fault(refusal) => {
-                    return Quantities {
-                        outcome: Outcome::Refused(refusal, 0),
-                        list: list,
-                        next: cursor,
-                    };
-                }
+fn read_head(text: &[u8], from: Cursor) -> HeadLines
+    ensures { λ r. ⌜ headRead (now (text .entry)) r ≡ head (rest (now (text .entry)) from) ⌝ }
+{
+    let n = match from.natural_field(text, b"n=", limits::N) {
+        NaturalLine::Holds(field) => field,
+        NaturalLine::Fault(refusal) => return HeadLines::Fault(refusal),
+    };
+    let after_n = n.next;
+    let steps = match after_n.natural_field(text, b"steps=", limits::STEPS) {
+        NaturalLine::Holds(field) => field,
+        NaturalLine::Fault(refusal) => return HeadLines::Fault(refusal),
+    };
+    let after_steps = steps.next;
+    let step = match after_steps.natural_field(text, b"step=", limits::STEP) {
+        NaturalLine::Holds(field) => field,
+        NaturalLine::Fault(refusal) => return HeadLines::Fault(refusal),
+    };
+    let after_step = step.next;
+    let tail = match after_step.natural_field(text, b"tail=", limits::TAIL) {
+        NaturalLine::Holds(field) => field,
+        NaturalLine::Fault(refusal) => return HeadLines::Fault(refusal),
+    };
+    let after_tail = tail.next;
+    let tol = match after_tail.natural_field(text, b"tol=", limits::TOL) {
+        NaturalLine::Holds(field) => field,
+        NaturalLine::Fault(refusal) => return HeadLines::Fault(refusal),
+    };
+    let end = tol.next;
+    HeadLines::Hold(
+        Head {
+            n: n.value as usize,
+            steps: steps.value as usize,
+            step: step.value,
+            tail: tail.value,
+            tol: tol.value,
+        },
+        end,
+    )
+}
+
+fn read_quantities(text: &[u8], n: usize, from: Cursor) -> Quantities
+    requires { ⌜ n ≤ 8 ⌝ }
+    ensures { λ r. ⌜ quantitiesRead (now (text .entry)) r ≡ quantities n (rest (now (text .entry)) from) ⌝ }
+{
+    let none = no_quantity();
+    let mut list = [none; 8];
+    let mut cursor = from;
+    for i in 0..n {
+        match read_quantity(text, cursor) {
+            QuantityLines::Hold(quantity, next) => {
+                list[i] = quantity;
+                cursor = next;
+            }
+            QuantityLines::Fault(refusal) => {
+                return Quantities {
+                    outcome: Outcome::Refused(refusal, 0),
+                    list: list,
+                    next: cursor,
+                };
             }
         }
-        Quantities {
-            outcome: Outcome::Accepted,
-            list: list,
-            next: cursor,
-        }
     }
+    Quantities {
+        outcome: Outcome::Accepted,
+        list: list,
+        next: cursor,
+    }
+}
 
-    fn terms(self, text: &[u8], n: usize, count: usize) -> Terms
-        requires { ⌜ n ≤ 8 ⌝ }
-        requires { ⌜ count ≤ 32 ⌝ }
-        ensures { λ r. ⌜ termsRead (now (text .entry)) r ≡ terms n count (rest (now (text .entry)) self) ⌝ }
-    {
-        let none = no_term();
-        let mut list = [none; 32];
-        let mut cursor = self;
-        for j in 0..count {
-            match cursor.term(text, n) {
-                TermLines::Hold(term, next) => {
-                    list[j] = term;
-                    cursor = next;
-                }
-                TermLines::Fault(refusal) => {
-                    return Terms {
-                        outcome: Outcome::Refused(refusal, 0),
-                        list: list,
-                        next: cursor,
-                    };
-                }
+fn read_terms(text: &[u8], n: usize, count: usize, from: Cursor) -> Terms
+    requires { ⌜ n ≤ 8 ⌝ }
+    requires { ⌜ count ≤ 32 ⌝ }
+    ensures { λ r. ⌜ termsRead (now (text .entry)) r ≡ terms n count (rest (now (text .entry)) from) ⌝ }
+{
+    let none = no_term();
+    let mut list = [none; 32];
+    let mut cursor = from;
+    for j in 0..count {
+        match read_term(text, n, cursor) {
+            TermLines::Hold(term, next) => {
+                list[j] = term;
+                cursor = next;
+            }
+            TermLines::Fault(refusal) => {
+                return Terms {
+                    outcome: Outcome::Refused(refusal, 0),
+                    list: list,
+                    next: cursor,
+                };
             }
         }
-        Terms {
-            outcome: Outcome::Accepted,
-            list: list,
-            next: cursor,
-        }
+    }
+    Terms {
+        outcome: Outcome::Accepted,
+        list: list,
+        next: cursor,
     }
 }
 
@@ -270,7 +279,7 @@ fn after_head(text: &[u8], head: Head, from: Cursor) -> Reading
     ensures { λ r. ⌜ r ≡ model.accepted (body head (rest (now (text .entry)) from)) ⌝ }
 {
     let n = head.n;
-    let quantities = from.quantities(text, n);
+    let quantities = read_quantities(text, n, from);
     let quantities_outcome = quantities.outcome;
     if let Outcome::Refused(refusal, _) = quantities_outcome {
         return refused(refusal);
@@ -281,7 +290,7 @@ fn after_head(text: &[u8], head: Head, from: Cursor) -> Reading
         NaturalLine::Fault(refusal) => return refused(refusal),
     };
     let after_count = count.next;
-    let terms = after_count.terms(text, n, count.value as usize);
+    let terms = read_terms(text, n, count.value as usize, after_count);
     let terms_outcome = terms.outcome;
     if let Outcome::Refused(refusal, _) = terms_outcome {
         return refused(refusal);
@@ -318,7 +327,7 @@ pub fn read(text: &[u8]) -> Reading
         return refused(Refusal::Oversized);
     }
     let top = Cursor { at: 0 };
-    match top.head(text) {
+    match read_head(text, top) {
         HeadLines::Hold(head, next) => after_head(text, head, next),
         HeadLines::Fault(refusal) => refused(refusal),
     }

@@ -2,8 +2,10 @@
 ghost use mathlib.Core.Path.{_≡_};
 ghost use Prim.Native.Nat.{_≤_};
 ghost use Rattle.model.specs.Sheet as model;
-ghost use Rattle.sheet.specs.Ranges.{outcome, headVerdict, quantitiesVerdict, termsVerdict};
+ghost use Rattle.sheet.specs.Verdicts.{outcome, headVerdict, quantitiesVerdict, termsVerdict};
 use crate::limits;
+use lines::limits::natural_within;
+use lines::limits::within;
 use model::Outcome;
 use model::Quantity;
 use model::Refusal;
@@ -26,7 +28,7 @@ fn start_verdict(start: Start) -> Outcome
     ensures { λ r. ⌜ r ≡ outcome (model.startVerdict start) ⌝ }
 {
     match start {
-        Start::Reading(z) => in_range(limits::within(limits::START, z)),
+        Start::Reading(z) => in_range(within(limits::START, z)),
         Start::Missing => Outcome::Refused(Refusal::NoReading, 0),
     }
 }
@@ -39,42 +41,42 @@ fn quantity_verdict(quantity: Quantity) -> Outcome
     if let Outcome::Refused(_, _) = first {
         return first;
     }
-    in_range(limits::natural_within(limits::RADIUS, quantity.radius))
+    in_range(natural_within(limits::RADIUS, quantity.radius))
 }
 
 fn term_within(n: usize, term: Term) -> bool
     requires { ⌜ n ≤ 8 ⌝ }
     ensures { λ r. ⌜ model.ask r Refusal.OutOfRange ≡ model.termVerdict n term ⌝ }
 {
-    if !limits::natural_within(limits::to_limits(n), term.to as u64) {
+    if !natural_within(limits::to_limits(n), term.to as u64) {
         return false;
     }
-    if !limits::within(limits::COEF, term.coef) {
+    if !within(limits::COEF, term.coef) {
         return false;
     }
-    if !limits::natural_within(limits::first_limits(n), term.first as u64) {
+    if !natural_within(limits::first_limits(n), term.first as u64) {
         return false;
     }
-    limits::natural_within(limits::second_limits(n, term.first), term.second as u64)
+    natural_within(limits::second_limits(n, term.first), term.second as u64)
 }
 
 // The lines above the quantities.
 fn head_within(sheet: Sheet) -> bool
     ensures { λ r. ⌜ model.ask r Refusal.OutOfRange ≡ headVerdict sheet ⌝ }
 {
-    if !limits::natural_within(limits::N, sheet.n as u64) {
+    if !natural_within(limits::N, sheet.n as u64) {
         return false;
     }
-    if !limits::natural_within(limits::STEPS, sheet.steps as u64) {
+    if !natural_within(limits::STEPS, sheet.steps as u64) {
         return false;
     }
-    if !limits::within(limits::STEP, sheet.step) {
+    if !within(limits::STEP, sheet.step) {
         return false;
     }
-    if !limits::natural_within(limits::TAIL, sheet.tail) {
+    if !natural_within(limits::TAIL, sheet.tail) {
         return false;
     }
-    limits::natural_within(limits::TOL, sheet.tol)
+    natural_within(limits::TOL, sheet.tol)
 }
 
 fn quantities_verdict(n: usize, quantities: [Quantity; 8]) -> Outcome
@@ -117,7 +119,7 @@ pub fn verdict(sheet: Sheet) -> Outcome
     if let Outcome::Refused(_, _) = first {
         return first;
     }
-    if !limits::natural_within(limits::TERMS, sheet.terms as u64) {
+    if !natural_within(limits::TERMS, sheet.terms as u64) {
         return in_range(false);
     }
     let terms = sheet.term;

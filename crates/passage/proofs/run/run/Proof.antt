@@ -3,7 +3,7 @@ use native.Mathlib.Omega.{arith}
 use Rattle.model.specs.Sheet.{sheetVerdict}
 use Rattle.model.specs.Passage.{placesNeeded, width}
 use Rattle.model.proofs.SheetBounds.{bounds-of-sheet}
-use Rattle.sheet.specs.Ranges.{outcome}
+use Rattle.sheet.specs.Verdicts.{outcome}
 use Rattle.sheet.proofs.Verdicts.{refuses-as}
 use Rattle.coefficients.specs.Layout.{quantities}
 use Rattle.passage.proofs.Rows.{rows-fit}

@@ -7,7 +7,7 @@ use native.Mathlib.Omega.{arith}
 use mir.Syntax.{w64}
 use mir.Facts.{toZ-pos}
 use Rattle.model.specs.Sheet.{second-limits, from_to_}
-use Rattle.sheet.specs.Ranges.{limitsOf}
+use Rattle.lines.specs.Ranges.{limitsOf}
 use borrow.Author.Needs.{needs}
 use Rattle.sheet.proofs.limits.second_limits.Statement.{statement}
 use Rattle.sheet.proofs.limits.second_limits.Tie as tie

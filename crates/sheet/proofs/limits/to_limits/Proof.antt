@@ -4,7 +4,7 @@ use native.Mathlib.Omega.{arith}
 use mir.Syntax.{w64}
 use mir.Facts.{toZ-pos}
 use Rattle.model.specs.Sheet.{to-limits, from_to_}
-use Rattle.sheet.specs.Ranges.{limitsOf}
+use Rattle.lines.specs.Ranges.{limitsOf}
 use borrow.Author.Needs.{needs}
 use Rattle.sheet.proofs.limits.to_limits.Statement.{statement}
 use Rattle.sheet.proofs.limits.to_limits.Tie as tie

@@ -11,10 +11,11 @@ use mir.Facts.{toZ-pos}
 use Rattle.model.specs.Range.{bytes}
 use Rattle.model.specs.Sheet.{terms-limits, from_to_}
 use Rattle.model.specs.Reading.{parsed, accepted, field}
-use Rattle.sheet.specs.Ranges.{limitsOf}
-use Rattle.sheet.specs.Places.{rest}
+use Rattle.lines.specs.Ranges.{limitsOf}
+use Rattle.lines.specs.Places.{rest}
 use Rattle.sheet.specs.Sheets.{quantitiesRead, quantities, termsRead, terms}
-use Rattle.sheet.proofs.Parsers.{filled-accepted, filled-refused, field-holds, field-fault, field-at-most}
+use Rattle.lines.proofs.Parsers.{field-holds, field-fault, field-at-most}
+use Rattle.sheet.proofs.Arrays.{filled-accepted, filled-refused}
 use Rattle.sheet.proofs.Bodies.{quantities-fault, count-fault, terms-fault, body-ends, body-goes-on}
 use borrow.Author.Needs.{needs}
 use Rattle.sheet.proofs.reading.after_head.Statement.{statement}
@@ -31,26 +32,26 @@ quantities-of c = c .before .before .before .before .before
 abbrev count-of : tie.After-enum-told2 → tie.After-field
 count-of c = c .before .before .before .before .before
 
-quantities-read : (c : tie.After-enum-told) → quantities (c .before .before .before .before .args .head .n) (rest (text c) (c .before .before .before .before .args .from)) ≡ parsed (c .before .before .quantities .result .list) (rest (text c) (c .before .before .quantities .result .next))
+quantities-read : (c : tie.After-enum-told) → quantities (c .before .before .before .before .args .head .n) (rest (text c) (c .before .before .before .before .args .from)) ≡ parsed (c .before .before .read-quantities .result .list) (rest (text c) (c .before .before .read-quantities .result .next))
 unfolding quantitiesRead
-quantities-read c = sym (c .before .before .quantities .ensures) ∙ filled-accepted _ _ (c .enum-told .given .1)
+quantities-read c = sym (c .before .before .read-quantities .ensures) ∙ filled-accepted _ _ (c .enum-told .given .1)
 
-count-read : (c : tie.After-field) → field "terms" terms-limits (rest (text (quantities-of c)) (quantities-of c .before .before .quantities .result .next)) ≡ parsed (c .field .given .0 .0 .value) (rest (text (quantities-of c)) (c .field .given .0 .0 .next))
+count-read : (c : tie.After-field) → field "terms" terms-limits (rest (text (quantities-of c)) (quantities-of c .before .before .read-quantities .result .next)) ≡ parsed (c .field .given .0 .0 .value) (rest (text (quantities-of c)) (c .field .given .0 .0 .next))
 unfolding limitsOf terms-limits from_to_ bytes
 count-read c = field-holds (text (quantities-of c)) "terms" _ refl (c .before .before .natural-field .ensures) (c .field .given .1)
 
-terms-read : (c : tie.After-enum-told2) → terms (quantities-of (count-of c) .before .before .before .before .args .head .n) (count-of c .field .given .0 .0 .value) (rest (text (quantities-of (count-of c))) (count-of c .field .given .0 .0 .next)) ≡ parsed (c .before .before .terms .result .list) (rest (text (quantities-of (count-of c))) (c .before .before .terms .result .next))
+terms-read : (c : tie.After-enum-told2) → terms (quantities-of (count-of c) .before .before .before .before .args .head .n) (count-of c .field .given .0 .0 .value) (rest (text (quantities-of (count-of c))) (count-of c .field .given .0 .0 .next)) ≡ parsed (c .before .before .read-terms .result .list) (rest (text (quantities-of (count-of c))) (c .before .before .read-terms .result .next))
 unfolding termsRead
-terms-read c = sym (c .before .before .terms .ensures) ∙ filled-accepted _ _ (c .enum-told2 .given .1)
+terms-read c = sym (c .before .before .read-terms .ensures) ∙ filled-accepted _ _ (c .enum-told2 .given .1)
 
-quantities-requires : tie.Need-quantities-requires
-quantities-requires c κs = c .before .pre .n
+read-quantities-requires : tie.Need-read-quantities-requires
+read-quantities-requires c κs = c .before .pre .n
 
 returns : tie.Need-returns
 unfolding quantitiesRead
 returns c =
     let told = c .before .before in
-    c .refused .ensures ∙ ap accepted (sym (quantities-fault _ _ (sym (told .before .before .quantities .ensures) ∙ filled-refused _ _ (told .quantities-outcome .given .1))))
+    c .refused .ensures ∙ ap accepted (sym (quantities-fault _ _ (sym (told .before .before .read-quantities .ensures) ∙ filled-refused _ _ (told .quantities-outcome .given .1))))
 
 returns-2 : tie.Need-returns-2
 unfolding limitsOf terms-limits from_to_ bytes
@@ -59,9 +60,9 @@ returns-2 c =
     let read = refusal .before .before .before .before .before in
     c .refused2 .ensures ∙ ap accepted (sym (count-fault _ _ (quantities-read read) (field-fault (text read) "terms" _ refl (refusal .before .before .natural-field .ensures) (refusal .refusal .given .1))))
 
-terms-requires : tie.Need-terms-requires
+read-terms-requires : tie.Need-read-terms-requires
 unfolding terms-limits
-terms-requires c κs =
+read-terms-requires c κs =
     let count = c .before .before in
     (quantities-of count .before .before .before .before .pre .n, field-at-most "terms" 0 32 _ (count-read count))
 
@@ -70,7 +71,7 @@ unfolding termsRead
 returns-3 c =
     let told = c .before .before in
     let count = told .before .before .before .before .before in
-    c .refused3 .ensures ∙ ap accepted (sym (terms-fault _ _ (quantities-read (quantities-of count)) (count-read count) (sym (told .before .before .terms .ensures) ∙ filled-refused _ _ (told .terms-outcome .given .1))))
+    c .refused3 .ensures ∙ ap accepted (sym (terms-fault _ _ (quantities-read (quantities-of count)) (count-read count) (sym (told .before .before .read-terms .ensures) ∙ filled-refused _ _ (told .terms-outcome .given .1))))
 
 returns-4 : tie.Need-returns-4
 returns-4 c =
@@ -135,7 +136,7 @@ pub after-head-spec : {M : Type 1} → statement M
 after-head-spec =
     tie.close
     (tie.spec
-    quantities-requires
+    read-quantities-requires
     enum-known-quantities-outcome
     refused-requires
     returns
@@ -146,7 +147,7 @@ after-head-spec =
     enum-known-refusal
     refused-requires-2
     returns-2
-    terms-requires
+    read-terms-requires
     enum-known-terms-outcome
     refused-requires-3
     returns-3

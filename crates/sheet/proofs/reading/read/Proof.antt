@@ -7,10 +7,10 @@ use Prim.Native.Nat.{ℕ, _≤_}
 use mathlib.Core.List.{List}
 use lib.ListN.{length}
 use Rattle.model.specs.Reading.{parsed, _>>=_, accepted, readSheet, most-bytes}
-use Rattle.sheet.specs.Places.{rest}
+use Rattle.lines.specs.Places.{rest}
 use Rattle.sheet.specs.Sheets.{headRead, head, body}
-use Rattle.sheet.proofs.Spellings.{read-as}
-use Rattle.sheet.proofs.Parsers.{bind-parsed, bind-fault}
+use Rattle.lines.proofs.Spellings.{read-as}
+use Rattle.lines.proofs.Parsers.{bind-parsed, bind-fault}
 use Rattle.sheet.proofs.Bodies.{sheet-parts, head-in-range}
 use borrow.Author.Needs.{needs}
 use Rattle.sheet.proofs.reading.read.Statement.{statement}
@@ -25,9 +25,9 @@ in-parts : (text : List ℕ) → length text ≤ 4096 → readSheet text ≡ acc
 unfolding readSheet most-bytes
 in-parts text h = rw (le-leb (length text) 4096 h, readSheet, sheet-parts)
 
-head-holds : (c : tie.After-head2) → head (now (c .before .before .before .before .before .args .text)) ≡ parsed (c .head2 .given .0 .0) (rest (now (c .before .before .before .before .before .args .text)) (c .head2 .given .0 .1 .0))
+head-holds : (c : tie.After-head) → head (now (c .before .before .before .before .before .args .text)) ≡ parsed (c .head .given .0 .0) (rest (now (c .before .before .before .before .before .args .text)) (c .head .given .0 .1 .0))
 unfolding headRead rest
-head-holds c = read-as (headRead (now (c .before .before .before .before .before .args .text))) (c .before .before .head .ensures) (c .head2 .given .1)
+head-holds c = read-as (headRead (now (c .before .before .before .before .before .args .text))) (c .before .before .read-head .ensures) (c .head .given .1)
 
 after-head-requires : tie.Need-after-head-requires
 after-head-requires c κs = head-in-range _ (head-holds (c .before))
@@ -42,13 +42,13 @@ unfolding headRead rest
 returns-3 c =
     let told = c .before .before in
     let text = now (told .before .before .before .before .before .args .text) in
-    c .refused2 .ensures ∙ sym (in-parts text (told .before .before .before .if1 .left) ∙ ap accepted (bind-fault _ _ (read-as (headRead text) (told .before .before .head .ensures) (told .refusal .given .1))))
+    c .refused2 .ensures ∙ sym (in-parts text (told .before .before .before .if1 .left) ∙ ap accepted (bind-fault _ _ (read-as (headRead text) (told .before .before .read-head .ensures) (told .refusal .given .1))))
 
 refused-requires : tie.Need-refused-requires
 refused-requires c κs = search needs
 
-head-requires : tie.Need-head-requires
-head-requires c κs = search needs
+read-head-requires : tie.Need-read-head-requires
+read-head-requires c κs = search needs
 
 enum-known-head : tie.Need-enum-known-head
 enum-known-head c = search needs
@@ -65,7 +65,7 @@ read-spec =
     (tie.spec
     refused-requires
     returns
-    head-requires
+    read-head-requires
     enum-known-head
     after-head-requires
     enum-known-refusal

@@ -5,7 +5,8 @@ use mathlib.Core.Bool.{true}
 use lib.IntN.{pos}
 use mir.Facts.{toZ-ofZ}
 use Rattle.model.specs.Sheet.{ask, _then_, within, inRange, n-limits, steps-limits, step-limits, tail-limits, tol-limits, from_to_, most}
-use Rattle.sheet.specs.Ranges.{limitsOf, headVerdict}
+use Rattle.lines.specs.Ranges.{limitsOf}
+use Rattle.sheet.specs.Verdicts.{headVerdict}
 use Rattle.sheet.proofs.Verdicts.{answer-is, answered-no, answered-yes}
 use borrow.Author.Needs.{needs}
 use Rattle.sheet.proofs.verdict.head_within.Statement.{statement}

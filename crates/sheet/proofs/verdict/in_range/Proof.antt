@@ -1,7 +1,7 @@
 -- `sheet::verdict::in_range` meets its contract.
 -- Assumes nothing.
 use Rattle.model.specs.Sheet.{ask}
-use Rattle.sheet.specs.Ranges.{outcome}
+use Rattle.sheet.specs.Verdicts.{outcome}
 use Rattle.sheet.proofs.verdict.in_range.Statement.{statement}
 use Rattle.sheet.proofs.verdict.in_range.Tie as tie
 

@@ -6,7 +6,7 @@ use native.Mathlib.Omega.{arith}
 use borrow.Author.Needs.{needs}
 use lib.ListN.{getD}
 use Rattle.model.specs.Sheet.{passes, inOrder, quantityVerdict, no-quantity}
-use Rattle.sheet.specs.Ranges.{outcome, quantitiesVerdict}
+use Rattle.sheet.specs.Verdicts.{outcome, quantitiesVerdict}
 use Rattle.sheet.proofs.Verdicts.{passes-as, refuses-as, one-more, first-refusal}
 use Rattle.sheet.proofs.verdict.quantities_verdict.Statement.{statement}
 use Rattle.sheet.proofs.verdict.quantities_verdict.Tie as tie

@@ -5,7 +5,8 @@ use lib.IntN.{pos}
 use mathlib.Core.Bool.{Bool}
 use Rattle.model.specs.Sheet.{ask, inRange, startVerdict, quantityVerdict, radius-limits, from_to_, most}
 use Rattle.model.specs.declared.Refusal.the-variants.{OutOfRange}
-use Rattle.sheet.specs.Ranges.{outcome, limitsOf}
+use Rattle.lines.specs.Ranges.{limitsOf}
+use Rattle.sheet.specs.Verdicts.{outcome}
 use Rattle.sheet.proofs.Verdicts.{refused-first, passed-first}
 use borrow.Author.Needs.{needs}
 use Rattle.sheet.proofs.verdict.quantity_verdict.Statement.{statement}

@@ -5,7 +5,8 @@ use mathlib.Core.Bool.{Bool}
 use mir.Facts.{toZ-ofZ}
 use Rattle.model.specs.Sheet.{ask, inRange, startVerdict, start-limits, ±_, most}
 use Rattle.model.specs.declared.Refusal.the-variants.{OutOfRange}
-use Rattle.sheet.specs.Ranges.{outcome, limitsOf}
+use Rattle.lines.specs.Ranges.{limitsOf}
+use Rattle.sheet.specs.Verdicts.{outcome}
 use borrow.Author.Needs.{needs}
 use Rattle.sheet.proofs.verdict.start_verdict.Statement.{statement}
 use Rattle.sheet.proofs.verdict.start_verdict.Tie as tie

@@ -5,7 +5,7 @@ use mathlib.Core.Bool.{true}
 use lib.IntN.{pos}
 use mir.Facts.{toZ-ofZ}
 use Rattle.model.specs.Sheet.{ask, _then_, within, inRange, termVerdict, to-limits, coef-limits, first-limits, ±_}
-use Rattle.sheet.specs.Ranges.{limitsOf}
+use Rattle.lines.specs.Ranges.{limitsOf}
 use Rattle.sheet.proofs.Verdicts.{answer-is, answered-no, answered-yes}
 use borrow.Author.Needs.{needs}
 use Rattle.sheet.proofs.verdict.term_within.Statement.{statement}

@@ -6,7 +6,7 @@ use native.Mathlib.Omega.{arith}
 use lib.ListN.{getD}
 use Rattle.model.specs.Sheet.{passes, ask, inOrder, termVerdict, no-term}
 use borrow.Author.Tests.{not-true, not-false}
-use Rattle.sheet.specs.Ranges.{termsVerdict}
+use Rattle.sheet.specs.Verdicts.{termsVerdict}
 use Rattle.sheet.proofs.Verdicts.{one-more, first-refusal}
 use Rattle.sheet.proofs.verdict.terms_within.Statement.{statement}
 use Rattle.sheet.proofs.verdict.terms_within.Tie as tie

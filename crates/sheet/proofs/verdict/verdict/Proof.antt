@@ -6,7 +6,8 @@ use borrow.Author.Tests.{not-true, not-false}
 use lib.IntN.{pos}
 use Rattle.model.specs.Sheet.{Verdict, passes, ask, _then_, within, inRange, terms-limits, from_to_}
 use Rattle.model.specs.declared.Refusal.the-variants.{OutOfRange}
-use Rattle.sheet.specs.Ranges.{outcome, limitsOf, headVerdict, quantitiesVerdict}
+use Rattle.lines.specs.Ranges.{limitsOf}
+use Rattle.sheet.specs.Verdicts.{outcome, headVerdict, quantitiesVerdict}
 use Rattle.sheet.proofs.Verdicts.{passes-as, refused-first, in-parts, head-passes, at-most, answered-no, answered-yes}
 use borrow.Author.Needs.{needs}
 use Rattle.sheet.proofs.verdict.verdict.Statement.{statement}
@@ -36,7 +37,7 @@ returns c =
     (c .in-range .ensures)
 
 quantities-verdict-requires : tie.Need-quantities-verdict-requires
-quantities-verdict-requires c κs = head-passes (c .before .before .before .args .sheet) (sym (head-passed (c .before)))
+quantities-verdict-requires c κs = head-passes (c .before .before .before .args .sheet) (head-passed (c .before))
 
 returns-2 : tie.Need-returns-2
 unfolding _then_
@@ -61,7 +62,7 @@ unfolding terms-limits
 terms-within-requires c κs =
     let a = c .before .before .before in
     let head = a .before .before .before .before in (
-      head-passes (head .before .before .args .sheet) (sym (head-passed head)),
+      head-passes (head .before .before .args .sheet) (head-passed head),
       at-most 0 32 (head .before .before .args .sheet .terms) (terms-passed (c .before)),
     )
 

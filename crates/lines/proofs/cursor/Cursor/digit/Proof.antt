@@ -1,0 +1,58 @@
+-- `lines::cursor::Cursor::digit` meets its contract.
+-- Assumes nothing.
+use mathlib.Core.Path.{_≡_, _∙_, sym}
+use mathlib.Core.List.{_∷_}
+use denote.Ref.{now}
+use Rattle.lines.specs.Places.{rest, stepped, digitRead, frontDigit}
+use Rattle.lines.proofs.Spellings.{read-as, digit-range, digit-first, no-digit-first}
+use borrow.Author.Needs.{needs}
+use Rattle.lines.proofs.cursor.Cursor.digit.Statement.{statement}
+use Rattle.lines.proofs.cursor.Cursor.digit.Tie as tie
+
+returns : tie.Need-returns
+unfolding stepped digitRead frontDigit
+returns c = rw (read-as (stepped (now (c .before .before .before .before .args .text))) (c .before .before .step .ensures) (c .enum-told .given .1))
+
+byte-first : (c : tie.After-b) → rest (now (c .before .before .before .before .args .text)) (c .before .before .before .before .args .self) ≡ c .b .given .0 .0 ∷ rest (now (c .before .before .before .before .args .text)) (c .b .given .0 .1 .0)
+unfolding stepped
+byte-first c = read-as (stepped (now (c .before .before .before .before .args .text))) (c .before .before .step .ensures) (c .b .given .1)
+
+sub-t8 : tie.Need-sub-t8
+sub-t8 c = digit-range (sym (c .before .is-digit .ensures) ∙ c .if1 .taken) .0
+
+returns-2 : tie.Need-returns-2
+unfolding digitRead
+returns-2 c = sym (digit-first (byte-first (c .before .before .before)) (sym (c .before .is-digit .ensures) ∙ c .if1 .taken))
+
+returns-3 : tie.Need-returns-3
+unfolding digitRead
+returns-3 c = sym (no-digit-first (byte-first (c .before .before .before)) (sym (c .before .is-digit .ensures) ∙ c .if1 .left))
+
+step-requires : tie.Need-step-requires
+step-requires c κs = search needs
+
+enum-known-b : tie.Need-enum-known-b
+enum-known-b c = search needs
+
+enum-told : tie.Need-enum-told
+enum-told c = search needs
+
+is-digit-requires : tie.Need-is-digit-requires
+is-digit-requires c κs = search needs
+
+cast-t9 : tie.Need-cast-t9
+cast-t9 c = search needs
+
+pub digit-spec : {M : Type 1} → statement M
+digit-spec =
+    tie.close
+    (tie.spec
+    step-requires
+    enum-known-b
+    enum-told
+    returns
+    is-digit-requires
+    sub-t8
+    cast-t9
+    returns-2
+    returns-3)

@@ -1,0 +1,131 @@
+-- `lines::cursor::Cursor::digits` meets its contract. The invariant: so many digits more from the cursor give what was asked
+-- from the start, and a number of so many digits is below that power of ten.
+-- Assumes nothing.
+use Prim.Native.Nat.{ℕ, suc, _+_, _-_, _*_, _^_, _≤_, _<_}
+use mathlib.Core.Path.{_≡_, refl, sym, ap, _∙_}
+use mathlib.Core.List.{List}
+use native.Mathlib.Omega.{arith}
+use native.Mathlib.Numerals.{add-one}
+use native.Mathlib.Nat.{pow-suc, pow-le-pow-right}
+use denote.Ref.{now}
+use lib.IntN.{pos}
+use mir.Syntax.{w64}
+use mir.Facts.{toZ-pos}
+use Rattle.model.specs.Reading.{spelled, digits}
+use Rattle.lines.specs.Places.{rest, digitRead, spelledAt, frontDigit, digit, other}
+use Rattle.lines.proofs.Spellings.{read-as, front-digit-small, digits-go, digits-stop}
+use borrow.Author.Needs.{needs}
+use Rattle.lines.proofs.cursor.Cursor.digits.Statement.{statement}
+use Rattle.lines.proofs.cursor.Cursor.digits.Tie as tie
+
+abbrev Inv-loop : tie.InvT-loop
+Inv-loop text first cursor₀ value₀ read₀ cursor value read =
+    (read ≤ 9) × (value < 10 ^ read) × (digits (9 - read) value (rest text cursor) ≡ digits 8 first (rest text cursor₀))
+
+abbrev μ-loop : tie.MeasureT-loop
+μ-loop text first cursor₀ value₀ read₀ cursor value read = 9 - read
+
+-- ---- a number of at most nine digits
+
+small : {value read : ℕ} → read ≤ 9 → value < 10 ^ read → value < 1000000000
+small h below = omega (arith, pow-le-pow-right {n = 10} (omega arith) h)
+
+one-digit-more : {value d : ℕ} (read : ℕ) → value < 10 ^ read → d < 10 → value * 10 + d < 10 ^ (read + 1)
+one-digit-more read h small = rw (add-one read, pow-suc) (omega arith)
+
+one-less : {read : ℕ} → read < 9 → 9 - read ≡ suc (9 - (read + 1))
+one-less h = omega arith
+
+loop-holds : tie.Need-loop-holds Inv-loop μ-loop
+loop-holds c = (omega arith, c .before .pre, refl)
+
+digit-requires : tie.Need-digit-requires Inv-loop μ-loop
+digit-requires c κs = search needs
+
+enum-known-d : tie.Need-enum-known-d Inv-loop μ-loop
+enum-known-d c = search needs
+
+enum-told : tie.Need-enum-told Inv-loop μ-loop
+enum-told c = search needs
+
+module _ {read : ℕ} (value : ℕ) (l : List ℕ) where
+  stopped : read < 9 → frontDigit l ≡ other → digits (9 - read) value l ≡ spelled (pos value) l
+  stopped h e = ap (λ (more : ℕ). digits more value l) (one-less h) ∙ digits-stop (9 - (read + 1)) value l e
+
+  one-more : {d : ℕ} {m : List ℕ} → read < 9 → frontDigit l ≡ digit d m → digits (9 - read) value l ≡ digits (9 - (read + 1)) (value * 10 + d) m
+  one-more h e = ap (λ (more : ℕ). digits more value l) (one-less h) ∙ digits-go (9 - (read + 1)) value l e
+
+  none-left : read ≤ 9 → 9 ≤ read → digits (9 - read) value l ≡ spelled (pos value) l
+  unfolding digits
+  none-left h g = ap (λ (more : ℕ). digits more value l) none
+    where
+      none : 9 - read ≡ 0
+      none = omega arith
+
+cast-t11 : tie.Need-cast-t11 Inv-loop μ-loop
+cast-t11 c = let at = c .before .before .before .before in record { sfits = omega (arith, small (at .loop .inv .0) (at .loop .inv .1)) }
+
+returns : tie.Need-returns Inv-loop μ-loop
+unfolding spelledAt digitRead
+returns c =
+    let at = c .before .before .before .before in
+    let text = now (at .before .before .args .text) in
+    rw (toZ-pos w64 {n = at .loop .value} (omega (arith, small (at .loop .inv .0) (at .loop .inv .1))))
+    (sym (stopped (at .loop .value) (rest text (at .loop .cursor)) (c .before .before .before .loop-test .taken) (read-as (digitRead text) (c .before .before .digit .ensures) (c .enum-told .given .1))) ∙ at .loop .inv .2)
+
+digit-first : (c : tie.After-d Inv-loop μ-loop) → frontDigit (rest (now (c .before .before .before .before .before .before .args .text)) (c .before .before .before .before .loop .cursor)) ≡ digit (c .d .given .0 .0) (rest (now (c .before .before .before .before .before .before .args .text)) (c .d .given .0 .1 .0))
+unfolding digitRead
+digit-first c = read-as (digitRead (now (c .before .before .before .before .before .before .args .text))) (c .before .before .digit .ensures) (c .d .given .1)
+
+digit-small : (c : tie.After-d Inv-loop μ-loop) → c .d .given .0 .0 < 10
+digit-small c = front-digit-small _ (digit-first c)
+
+mul-value : tie.Need-mul-value Inv-loop μ-loop
+mul-value c = let at = c .before .before .before .before .before in omega (arith, small (at .loop .inv .0) (at .loop .inv .1))
+
+add-value : tie.Need-add-value Inv-loop μ-loop
+add-value c = let at = c .before .before .before .before .before in omega (arith, small (at .loop .inv .0) (at .loop .inv .1), digit-small (c .before))
+
+add-read : tie.Need-add-read Inv-loop μ-loop
+add-read c = omega arith
+
+loop-less : tie.Need-loop-less Inv-loop μ-loop
+loop-less c = omega arith
+
+loop-again : tie.Need-loop-again Inv-loop μ-loop
+loop-again c =
+    let at = c .before .before .before .before .before in (
+      omega arith,
+      one-digit-more (at .loop .read) (at .loop .inv .1) (digit-small (c .before)),
+      sym (one-more (at .loop .value) _ (c .before .before .before .before .loop-test .taken) (digit-first (c .before))) ∙ at .loop .inv .2,
+    )
+
+cast-t13 : tie.Need-cast-t13 Inv-loop μ-loop
+cast-t13 c = record { sfits = omega (arith, small (c .before .loop .inv .0) (c .before .loop .inv .1)) }
+
+returns-2 : tie.Need-returns-2 Inv-loop μ-loop
+unfolding spelledAt
+returns-2 c =
+    let at = c .before in
+    rw (toZ-pos w64 {n = at .loop .value} (omega (arith, small (at .loop .inv .0) (at .loop .inv .1))))
+    (sym (none-left (at .loop .value) (rest (now (at .before .before .args .text)) (at .loop .cursor)) (at .loop .inv .0) (c .loop-test .left)) ∙ at .loop .inv .2)
+
+pub digits-spec : {M : Type 1} → statement M
+digits-spec =
+    tie.close
+    (tie.spec
+    Inv-loop
+    μ-loop
+    loop-holds
+    digit-requires
+    enum-known-d
+    enum-told
+    cast-t11
+    returns
+    mul-value
+    add-value
+    add-read
+    loop-less
+    loop-again
+    cast-t13
+    returns-2)

@@ -1,0 +1,30 @@
+-- What the answers of a field's reading say of its text: each is read as what the definitions parse from the bytes there.
+use Prim.Native.Nat.{ℕ}
+use mathlib.Core.Bool.{Bool, false}
+use mathlib.Core.List.{List}
+use lib.IntN.{ℤ, natAbs}
+use Rattle.model.specs.Sheet.{Limits}
+use Rattle.model.specs.Reading.{Parsed, parsed, fault, Parser, return, _>>=_, faults}
+use Rattle.lines.specs.Places.{rest, lineAfter}
+use Rattle.lines.specs.declared.fields.WholeLine.{WholeLine}
+use Rattle.lines.specs.declared.fields.WholeLine.the-variants as whole
+use Rattle.lines.specs.declared.fields.NaturalLine.{NaturalLine}
+use Rattle.lines.specs.declared.fields.NaturalLine.the-variants as natural
+
+-- ---- a field, whose key is given as its bytes with the equals sign
+
+unfoldable pub wholeRead : List ℕ → WholeLine → Parsed ℤ
+wholeRead text (whole.Holds field) = parsed (field .value) (rest text (field .next))
+wholeRead text (whole.Fault r) = fault r
+
+unfoldable pub wholeAfter : List ℕ → Bool → Limits → Parser ℤ
+wholeAfter key minus limits text = faults (lineAfter key minus limits text)
+
+unfoldable pub naturalRead : List ℕ → NaturalLine → Parsed ℕ
+naturalRead text (natural.Holds field) = parsed (field .value) (rest text (field .next))
+naturalRead text (natural.Fault r) = fault r
+
+unfoldable pub naturalAfter : List ℕ → Limits → Parser ℕ
+naturalAfter key limits = do
+  z ← wholeAfter key false limits
+  return (natAbs z)

@@ -1,0 +1,69 @@
+-- What the answers of a cursor say of its text: each answer is read as that of the definitions on the bytes from there.
+use Prim.Native.Nat.{ℕ, _-_}
+use Prim.Native.Char.{code}
+use mathlib.Core.Bool.{Bool, true, false}
+use mathlib.Core.List.{List, [], _∷_}
+use mathlib.Core.Option.{Option, some, none}
+use lib.ListN.{drop}
+use Rattle.model.specs.Reading.{isDigit, natural, signed, after, ended, spelled, wrong, holds, misspelt, outside}
+use Rattle.model.specs.Reading as model
+use Rattle.model.specs.Sheet.{Limits}
+use Rattle.lines.specs.declared.cursor.Cursor.{Cursor}
+use Rattle.lines.specs.declared.cursor.Step.{Step}
+use Rattle.lines.specs.declared.cursor.Step.the-variants.{Byte, End}
+use Rattle.lines.specs.declared.cursor.Digit.{Digit}
+use Rattle.lines.specs.declared.cursor.Digit.the-variants.{Value, Other}
+use Rattle.lines.specs.declared.cursor.Spelled.{Spelled}
+use Rattle.lines.specs.declared.cursor.Spelled.the-variants.{Number, Wrong}
+use Rattle.lines.specs.declared.cursor.After.{After}
+use Rattle.lines.specs.declared.cursor.After.the-variants.{Here, Elsewhere}
+use Rattle.lines.specs.declared.cursor.Line.{Line}
+use Rattle.lines.specs.declared.cursor.Line.the-variants as line
+
+-- the bytes from a cursor on
+unfoldable pub rest : List ℕ → Cursor → List ℕ
+rest text cursor = drop (cursor .at) text
+
+unfoldable pub stepped : List ℕ → Step → List ℕ
+stepped text (Byte b next) = b ∷ rest text next
+stepped text End = []
+
+unfoldable pub empty : List ℕ → Bool
+empty [] = true
+empty (b ∷ rest) = false
+
+-- the digit at the front of some bytes, with the bytes after it
+pub data Front : Type 0 where
+  digit : ℕ → List ℕ → Front
+  other : Front
+
+unfoldable pub frontDigit : List ℕ → Front
+frontDigit [] = other
+frontDigit (b ∷ rest) = elim (isDigit b) [ true ↦ digit (b - code "0") rest | false ↦ other ]
+
+unfoldable pub digitRead : List ℕ → Digit → Front
+digitRead text (Value d next) = digit d (rest text next)
+digitRead text Other = other
+
+unfoldable pub spelledAt : List ℕ → Spelled → model.Spelled
+spelledAt text (Number z next) = spelled z (rest text next)
+spelledAt text Wrong = wrong
+
+unfoldable pub foundAfter : List ℕ → After → Option (List ℕ)
+foundAfter text (Here next) = some (rest text next)
+foundAfter text Elsewhere = none
+
+-- how a number is spelled, where a minus is allowed and where it is not
+unfoldable pub spelling : Bool → List ℕ → model.Spelled
+spelling true = signed
+spelling false = natural
+
+unfoldable pub lineAt : List ℕ → Line → model.Line
+lineAt text (line.Number z next) = holds z (rest text next)
+lineAt text line.Misspelt = misspelt
+lineAt text line.Outside = outside
+
+-- a line whose key is given as its bytes, the equals sign with them
+unfoldable pub lineAfter : List ℕ → Bool → Limits → List ℕ → model.Line
+lineAfter key minus limits text =
+    elim (after key text) [ some rest ↦ ended limits (spelling minus rest) | none ↦ misspelt ]

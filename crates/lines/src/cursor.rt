@@ -1,0 +1,204 @@
+// Document 01, 'The sheet': a place in a text, and what is read from there. A cursor goes in by value; what is read comes
+// back with the moved cursor, so that each line is read from the place where the last one ended.
+ghost use mathlib.Core.Path.{_≡_};
+ghost use Prim.Native.Nat.{_<_};
+ghost use Rattle.model.specs.Reading as model;
+ghost use Rattle.lines.specs.Ranges.{limitsOf};
+ghost use Rattle.lines.specs.Places.{rest, stepped, empty, digitRead, frontDigit, spelledAt, foundAfter, spelling, lineAt, lineAfter};
+use crate::limits;
+use crate::limits::Limits;
+
+pub struct Cursor {
+    pub at: usize,
+}
+
+// The byte at a cursor, or the end of the text.
+pub enum Step {
+    Byte(u8, Cursor),
+    End,
+}
+
+// The digit at a cursor, or anything else there.
+pub enum Digit {
+    Value(u64, Cursor),
+    Other,
+}
+
+// The number that is spelled at a cursor, or a misspelling.
+pub enum Spelled {
+    Number(i64, Cursor),
+    Wrong,
+}
+
+// The place after a text that stands at a cursor, or another text there.
+pub enum After {
+    Here(Cursor),
+    Elsewhere,
+}
+
+// What a line holds, or what is wrong with it.
+pub enum Line {
+    Number(i64, Cursor),
+    Misspelt,
+    Outside,
+}
+
+fn is_digit(b: u8) -> bool
+    ensures { λ r. ⌜ r ≡ model.isDigit b ⌝ }
+{
+    b'0' <= b && b <= b'9'
+}
+
+impl Cursor {
+    pub fn step(self, text: &[u8]) -> Step
+        ensures { λ r. ⌜ stepped (now (text .entry)) r ≡ rest (now (text .entry)) self ⌝ }
+    {
+        let at = self.at;
+        if at < text.len() {
+            Step::Byte(text[at], Cursor { at: at + 1 })
+        } else {
+            Step::End
+        }
+    }
+
+    // Whether nothing is left.
+    pub fn at_end(self, text: &[u8]) -> bool
+        ensures { λ r. ⌜ r ≡ empty (rest (now (text .entry)) self) ⌝ }
+    {
+        match self.step(text) {
+            Step::Byte(_, _) => false,
+            Step::End => true,
+        }
+    }
+
+    fn digit(self, text: &[u8]) -> Digit
+        ensures { λ r. ⌜ digitRead (now (text .entry)) r ≡ frontDigit (rest (now (text .entry)) self) ⌝ }
+    {
+        let Step::Byte(b, next) = self.step(text) else {
+            return Digit::Other;
+        };
+        if is_digit(b) {
+            Digit::Value((b - b'0') as u64, next)
+        } else {
+            Digit::Other
+        }
+    }
+
+    // The digits after the first: at most eight.
+    fn digits(self, text: &[u8], first: u64) -> Spelled
+        requires { ⌜ first < 10 ⌝ }
+        ensures { λ r. ⌜ spelledAt (now (text .entry)) r ≡ model.digits 8 first (rest (now (text .entry)) self) ⌝ }
+    {
+        let mut cursor = self;
+        let mut value = first;
+        let mut read: u64 = 1;
+        while read < 9 {
+            let Digit::Value(d, next) = cursor.digit(text) else {
+                return Spelled::Number(value as i64, cursor);
+            };
+            value = value * 10 + d;
+            cursor = next;
+            read += 1;
+        }
+        Spelled::Number(value as i64, cursor)
+    }
+
+    fn natural(self, text: &[u8]) -> Spelled
+        ensures { λ r. ⌜ spelledAt (now (text .entry)) r ≡ model.natural (rest (now (text .entry)) self) ⌝ }
+    {
+        let Digit::Value(d, next) = self.digit(text) else {
+            return Spelled::Wrong;
+        };
+        if d == 0 {
+            Spelled::Number(0, next)
+        } else {
+            next.digits(text, d)
+        }
+    }
+
+    // A natural number after a minus, which never stands before 0.
+    fn negative(self, text: &[u8]) -> Spelled
+        ensures { λ r. ⌜ spelledAt (now (text .entry)) r ≡ model.negated (model.natural (rest (now (text .entry)) self)) ⌝ }
+    {
+        let Spelled::Number(z, next) = self.natural(text) else {
+            return Spelled::Wrong;
+        };
+        if 0 < z {
+            Spelled::Number(-z, next)
+        } else {
+            Spelled::Wrong
+        }
+    }
+
+    fn signed(self, text: &[u8]) -> Spelled
+        ensures { λ r. ⌜ spelledAt (now (text .entry)) r ≡ model.signed (rest (now (text .entry)) self) ⌝ }
+    {
+        let Step::Byte(b, next) = self.step(text) else {
+            return Spelled::Wrong;
+        };
+        if b == b'-' {
+            next.negative(text)
+        } else {
+            self.natural(text)
+        }
+    }
+
+    // A number, before which a minus may be allowed.
+    fn number(self, text: &[u8], minus: bool) -> Spelled
+        ensures { λ r. ⌜ spelledAt (now (text .entry)) r ≡ spelling minus (rest (now (text .entry)) self) ⌝ }
+    {
+        if minus {
+            self.signed(text)
+        } else {
+            self.natural(text)
+        }
+    }
+
+    // The place after a text, if it stands here.
+    pub fn after(self, text: &[u8], key: &[u8]) -> After
+        ensures { λ r. ⌜ foundAfter (now (text .entry)) r ≡ model.after (now (key .entry)) (rest (now (text .entry)) self) ⌝ }
+    {
+        let mut cursor = self;
+        for k in 0..key.len() {
+            let Step::Byte(b, next) = cursor.step(text) else {
+                return After::Elsewhere;
+            };
+            if key[k] != b {
+                return After::Elsewhere;
+            }
+            cursor = next;
+        }
+        After::Here(cursor)
+    }
+
+    // A number was read up to here: a missing line feed decides before the number's range.
+    fn ended(self, text: &[u8], z: i64, limits: Limits) -> Line
+        ensures { λ r. ⌜ lineAt (now (text .entry)) r ≡ model.ended (limitsOf limits) (model.spelled z (rest (now (text .entry)) self)) ⌝ }
+    {
+        let fits = limits::within(limits, z);
+        let Step::Byte(b, next) = self.step(text) else {
+            return Line::Misspelt;
+        };
+        if b != b'\n' {
+            return Line::Misspelt;
+        }
+        if fits {
+            Line::Number(z, next)
+        } else {
+            Line::Outside
+        }
+    }
+
+    // One line: the key with its equals sign, a number in its limits, a line feed.
+    pub fn line(self, text: &[u8], key: &[u8], minus: bool, limits: Limits) -> Line
+        ensures { λ r. ⌜ lineAt (now (text .entry)) r ≡ lineAfter (now (key .entry)) minus (limitsOf limits) (rest (now (text .entry)) self) ⌝ }
+    {
+        let After::Here(value) = self.after(text, key) else {
+            return Line::Misspelt;
+        };
+        let Spelled::Number(z, end) = value.number(text, minus) else {
+            return Line::Misspelt;
+        };
+        end.ended(text, z, limits)
+    }
+}

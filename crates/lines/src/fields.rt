@@ -1,0 +1,62 @@
+// Document 01, question 2: a field, given by its key with the equals sign, on its line; or the refusal of a line that is
+// not right.
+ghost use mathlib.Core.Path.{_≡_};
+ghost use Rattle.lines.specs.Ranges.{limitsOf};
+ghost use Rattle.lines.specs.Places.{rest};
+ghost use Rattle.lines.specs.Fields.{wholeRead, wholeAfter, naturalRead, naturalAfter};
+use crate::cursor::Cursor;
+use crate::cursor::Line;
+use crate::limits::Limits;
+use model::Refusal;
+
+// A number that may be negative, and the cursor after its line.
+pub struct Whole {
+    pub value: i64,
+    pub next: Cursor,
+}
+
+pub enum WholeLine {
+    Holds(Whole),
+    Fault(Refusal),
+}
+
+// A natural number, and the cursor after its line.
+pub struct Natural {
+    pub value: u64,
+    pub next: Cursor,
+}
+
+pub enum NaturalLine {
+    Holds(Natural),
+    Fault(Refusal),
+}
+
+impl Cursor {
+    pub fn whole_field(self, text: &[u8], key: &[u8], minus: bool, limits: Limits) -> WholeLine
+        ensures { λ r. ⌜ wholeRead (now (text .entry)) r ≡ wholeAfter (now (key .entry)) minus (limitsOf limits) (rest (now (text .entry)) self) ⌝ }
+    {
+        match self.line(text, key, minus, limits) {
+            Line::Number(z, next) => WholeLine::Holds(Whole {
+                value: z,
+                next: next,
+            }),
+            Line::Misspelt => WholeLine::Fault(Refusal::Misspelt),
+            Line::Outside => WholeLine::Fault(Refusal::OutOfRange),
+        }
+    }
+
+    pub fn natural_field(self, text: &[u8], key: &[u8], limits: Limits) -> NaturalLine
+        ensures { λ r. ⌜ naturalRead (now (text .entry)) r ≡ naturalAfter (now (key .entry)) (limitsOf limits) (rest (now (text .entry)) self) ⌝ }
+    {
+        match self.whole_field(text, key, false, limits) {
+            WholeLine::Holds(field) => {
+                let next = field.next;
+                NaturalLine::Holds(Natural {
+                    value: rounding::magnitude(field.value),
+                    next: next,
+                })
+            }
+            WholeLine::Fault(refusal) => NaturalLine::Fault(refusal),
+        }
+    }
+}
