@@ -4,23 +4,28 @@ ghost use Prim.Native.Nat.{_≤_};
 ghost use Rattle.model.specs.Sheet as model;
 ghost use Rattle.lines.specs.Ranges.{limitsOf};
 use lines::limits::Limits;
+use model::QUANTITIES;
+use model::SCALE;
 
-pub const MOST: i64 = 536870912;
+const MOST: i64 = model::MOST as i64;
 
-pub const MOST_COEF: i64 = 268435456;
+const MOST_COEF: i64 = 268435456;
 
-pub const N: Limits = Limits { low: 1, high: 8 };
+pub const N: Limits = Limits {
+    low: 1,
+    high: QUANTITIES as i64,
+};
 
 pub const STEPS: Limits = Limits { low: 1, high: 400 };
 
 pub const STEP: Limits = Limits {
     low: 1,
-    high: 16777216,
+    high: SCALE as i64,
 };
 
 pub const TAIL: Limits = Limits {
     low: 2,
-    high: 16777216,
+    high: SCALE as i64,
 };
 
 pub const TOL: Limits = Limits { low: 1, high: MOST };
@@ -32,7 +37,10 @@ pub const START: Limits = Limits {
 
 pub const RADIUS: Limits = Limits { low: 0, high: MOST };
 
-pub const TERMS: Limits = Limits { low: 0, high: 32 };
+pub const TERMS: Limits = Limits {
+    low: 0,
+    high: model::TERMS as i64,
+};
 
 pub const COEF: Limits = Limits {
     low: -MOST_COEF,

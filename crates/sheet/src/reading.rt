@@ -11,11 +11,13 @@ use lines::cursor::Cursor;
 use lines::fields::NaturalLine;
 use lines::fields::WholeLine;
 use model::Outcome;
+use model::QUANTITIES;
 use model::Quantity;
 use model::Reading;
 use model::Refusal;
 use model::Sheet;
 use model::Start;
+use model::TERMS;
 use model::Term;
 
 // The lines of one quantity.
@@ -47,14 +49,14 @@ pub enum HeadLines {
 // The quantities read so far, with 0 past them, and the first refusal.
 pub struct Quantities {
     pub outcome: Outcome,
-    pub list: [Quantity; 8],
+    pub list: [Quantity; QUANTITIES],
     pub next: Cursor,
 }
 
 // The terms read so far, with 0 past them, and the first refusal.
 pub struct Terms {
     pub outcome: Outcome,
-    pub list: [Term; 32],
+    pub list: [Term; TERMS],
     pub next: Cursor,
 }
 
@@ -175,7 +177,7 @@ fn read_quantities(text: &[u8], n: usize, from: Cursor) -> Quantities
     ensures { λ r. ⌜ quantitiesRead (now (text .entry)) r ≡ quantities n (rest (now (text .entry)) from) ⌝ }
 {
     let none = no_quantity();
-    let mut list = [none; 8];
+    let mut list = [none; QUANTITIES];
     let mut cursor = from;
     for i in 0..n {
         match read_quantity(text, cursor) {
@@ -205,7 +207,7 @@ fn read_terms(text: &[u8], n: usize, count: usize, from: Cursor) -> Terms
     ensures { λ r. ⌜ termsRead (now (text .entry)) r ≡ terms n count (rest (now (text .entry)) from) ⌝ }
 {
     let none = no_term();
-    let mut list = [none; 32];
+    let mut list = [none; TERMS];
     let mut cursor = from;
     for j in 0..count {
         match read_term(text, n, cursor) {
@@ -255,8 +257,8 @@ fn refused(refusal: Refusal) -> Reading
 {
     let no_quantity = no_quantity();
     let no_term = no_term();
-    let quantity = [no_quantity; 8];
-    let term = [no_term; 32];
+    let quantity = [no_quantity; QUANTITIES];
+    let term = [no_term; TERMS];
     let sheet = Sheet {
         n: 0,
         steps: 0,

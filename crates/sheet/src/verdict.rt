@@ -7,10 +7,12 @@ use crate::limits;
 use lines::limits::natural_within;
 use lines::limits::within;
 use model::Outcome;
+use model::QUANTITIES;
 use model::Quantity;
 use model::Refusal;
 use model::Sheet;
 use model::Start;
+use model::TERMS;
 use model::Term;
 
 // Whether a number is in its range, as an outcome.
@@ -79,7 +81,7 @@ fn head_within(sheet: Sheet) -> bool
     natural_within(limits::TOL, sheet.tol)
 }
 
-fn quantities_verdict(n: usize, quantities: [Quantity; 8]) -> Outcome
+fn quantities_verdict(n: usize, quantities: [Quantity; QUANTITIES]) -> Outcome
     requires { ⌜ n ≤ 8 ⌝ }
     ensures { λ r. ⌜ r ≡ outcome (quantitiesVerdict n quantities) ⌝ }
 {
@@ -93,7 +95,7 @@ fn quantities_verdict(n: usize, quantities: [Quantity; 8]) -> Outcome
     Outcome::Accepted
 }
 
-fn terms_within(n: usize, count: usize, terms: [Term; 32]) -> bool
+fn terms_within(n: usize, count: usize, terms: [Term; TERMS]) -> bool
     requires { ⌜ n ≤ 8 ⌝ }
     requires { ⌜ count ≤ 32 ⌝ }
     ensures { λ r. ⌜ model.ask r Refusal.OutOfRange ≡ termsVerdict n count terms ⌝ }
