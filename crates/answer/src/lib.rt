@@ -1,5 +1,5 @@
 // The answer to a sheet: from its bytes, by way of lent buffers for the rows and the text, to the text's bytes.
-pub mod text;
+mod text;
 
 ghost use mathlib.Core.Path.{_≡_};
 ghost use Prim.Native.Nat.{_≤_};

@@ -182,7 +182,7 @@ fn refused_step(outcome: Outcome) -> u64
 }
 
 // The last two lines. They are short whatever the outcome, so a bound of the place is all that they ask.
-pub fn put_outcome(text: &mut [u8], at: usize, outcome: Outcome) -> usize
+fn put_outcome(text: &mut [u8], at: usize, outcome: Outcome) -> usize
     requires { ⌜ at < 2 ^ 32 ⌝ }
     ensures { λ r. ⌜ Put (now (text .entry)) at (answer.outcomeText outcome) r (now (text .exit)) ⌝ }
     ensures { λ r. ⌜ r ≤ at + most-outcome ⌝ }

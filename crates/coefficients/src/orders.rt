@@ -19,7 +19,6 @@ use model::SCALE;
 use model::TERMS;
 use rounding::magnitude;
 use rounding::near;
-use rounding::near_product;
 use rounding::product;
 use rounding::up_and_one;
 
@@ -31,9 +30,10 @@ fn with_product(sum: Ball, a: i64, b: i64, reach: u64, other: u64) -> Ball
     ensures { λ r. ⌜ r .value ≡ sum .value +ℤ round.near (a *ℤ b) scale ⌝ }
     ensures { λ r. ⌜ r .radius ≡ sum .radius + (round.up (reach * other - natAbs (a *ℤ b)) scale + 1) ⌝ }
 {
-    let error = product(reach, other) - product(magnitude(a), magnitude(b));
+    let signed = a * b;
+    let error = product(reach, other) - magnitude(signed);
     Ball {
-        value: sum.value + near_product(a, b, SCALE),
+        value: sum.value + near(signed, SCALE),
         radius: sum.radius + up_and_one(error, SCALE),
     }
 }

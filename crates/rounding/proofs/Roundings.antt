@@ -1,12 +1,12 @@
 -- What `up` and `near` are, for any divisor from 1 up: `IsUp` and `IsNear` hold of them, and of nothing else.
 -- Assumes nothing.
-use Prim.Native.Nat.{ℕ, zero, suc, _+_, _*_, _-_, _/_, _≤_, _<_}
+use Prim.Native.Nat.{ℕ, suc, _+_, _*_, _-_, _/_, _≤_, _<_}
 use mathlib.Core.Path.{_≡_, refl, sym, ap, _∙_, subst}
 use native.Mathlib.Nat.{div-lt-iff-lt-mul, div-eq-of-lt-le, div-add-mod', mod-lt, le-antisymm, le-refl, le-trans, mul-le-mul-right, one-mul, le-mul-of-pos-right}
 use native.Mathlib.Omega.{arith}
 use native.Mathlib.Decide.{decLt}
 use mathlib.Core.Logic.{_≢_}
-use mathlib.Core.Bool.{Bool, true, false, Bool·beq, true≢false, false≢true}
+use mathlib.Core.Bool.{true}
 use borrow.Author.Tests.{ltb-true}
 use lib.Signed.{ltZ}
 use lib.IntN.{ℤ, pos, negsuc, negℤ, natAbs, _+ℤ_, _-ℤ_, _*ℤ_, ℤ-discrete, negℤ-negℤ}
@@ -83,34 +83,6 @@ near-negative (negsuc k) d t = refl
 pub near-natural : (n d : ℕ) → near (pos n) d ≡ pos (nearℕ n d)
 unfolding near
 near-natural n d = refl
-
-pub near-minus : (m : ℕ) {d : ℕ} → 0 < d → near (negℤ (pos m)) d ≡ negℤ (pos (nearℕ m d))
-unfolding near
-near-minus zero {d} h =
-    let none : nearℕ 0 d ≡ 0 = omega (arith, nearℕ-le 0 h) in
-    rw none
-near-minus (suc m) h = refl
-
--- ---- a product, by the signs and the magnitudes of its factors
-
-natural-sign : (m : ℕ) → ltZ (pos m) (pos 0) ≡ false
-natural-sign m = go (ltZ (pos m) (pos 0)) refl
-  where
-    go : (x : Bool) → ltZ (pos m) (pos 0) ≡ x → x ≡ false
-    go true e = absurd (omega (arith, ltb-true m 0 e))
-    go false e = refl
-
-pub product-alike : (a b : ℤ) → Bool·beq (ltZ a (pos 0)) (ltZ b (pos 0)) ≡ true → a *ℤ b ≡ pos (natAbs a * natAbs b)
-product-alike (pos m) (pos n) t = refl
-product-alike (pos m) (negsuc n) t = absurd (false≢true (rw (natural-sign m) at t))
-product-alike (negsuc m) (pos n) t = absurd (false≢true (rw (natural-sign n) at t))
-product-alike (negsuc m) (negsuc n) t = refl
-
-pub product-unlike : (a b : ℤ) → Bool·beq (ltZ a (pos 0)) (ltZ b (pos 0)) ≡ false → a *ℤ b ≡ negℤ (pos (natAbs a * natAbs b))
-product-unlike (pos m) (pos n) t = absurd (true≢false (rw (natural-sign m, natural-sign n) at t))
-product-unlike (pos m) (negsuc n) t = refl
-product-unlike (negsuc m) (pos n) t = refl
-product-unlike (negsuc m) (negsuc n) t = absurd (true≢false t)
 
 distance-neg : (n : ℤ) (d : ℕ) (z : ℤ) → distance (negℤ n) d (negℤ z) ≡ distance n d z
 unfolding distance

@@ -1,7 +1,7 @@
 // Document 01, 'One rounded step': the two roundings, and the magnitude that they work on.
 ghost use mathlib.Core.Path.{_≡_};
 ghost use Prim.Native.Nat.{_+_, _*_, _<_, _≤_, _^_};
-ghost use lib.IntN.{pos, negℤ, natAbs, _*ℤ_};
+ghost use lib.IntN.{pos, negℤ, natAbs};
 ghost use Rattle.rounding.specs.Rounding as rounding;
 
 // |n|, which for the least i64 is one more than the largest.
@@ -74,21 +74,4 @@ pub fn near(n: i64, d: u64) -> i64
 {
     let m = near_magnitude(magnitude(n), d);
     if n < 0 { negated(m) } else { m as i64 }
-}
-
-// near(a × b, d), by the product of the magnitudes.
-pub fn near_product(a: i64, b: i64, d: u64) -> i64
-    requires { ⌜ 0 < d ⌝ }
-    requires { ⌜ natAbs a < 2 ^ 31 ⌝ }
-    requires { ⌜ natAbs b < 2 ^ 31 ⌝ }
-    ensures { λ r. ⌜ r ≡ rounding.near (a *ℤ b) d ⌝ }
-{
-    let m = near_magnitude(product(magnitude(a), magnitude(b)), d);
-    let below = a < 0;
-    let other_below = b < 0;
-    if below == other_below {
-        m as i64
-    } else {
-        negated(m)
-    }
 }

@@ -1,7 +1,7 @@
 -- `coefficients::orders::with_product` meets its contract. The products and their roundings fit, since the reaches do.
 -- Assumes nothing.
-use Prim.Native.Nat.{ℕ, _+_, _-_, _*_, _^_, _≤_, _<_}
-use mathlib.Core.Path.{_≡_, sym, ap, ap₂, _∙_}
+use Prim.Native.Nat.{ℕ, _+_, _-_, _*_, _^_, _≤_}
+use mathlib.Core.Path.{_≡_, ap, ap₂, _∙_}
 use native.Mathlib.Nat.{mul-le-mul}
 use native.Mathlib.Omega.{arith}
 use lib.IntN.{ℤ, natAbs, _+ℤ_, _*ℤ_}
@@ -10,7 +10,7 @@ use mir.Val.{SFits, toZ, ofZ}
 use mir.Facts.{toZ-ofZ}
 use Rattle.rounding.specs.Rounding.{near, up}
 use Rattle.rounding.proofs.Integers.{abs-add, abs-mul}
-use Rattle.rounding.proofs.Machine.{sfits-abs, magnitude-is}
+use Rattle.rounding.proofs.Machine.{sfits-abs}
 use Rattle.model.specs.Sheet.{scale, most}
 use Rattle.model.specs.Step.{reach}
 use Rattle.model.specs.declared.Ball.{Ball}
@@ -24,46 +24,40 @@ module _ (a b : ℤ) {r t : ℕ} (covered : (natAbs a ≤ r) × (natAbs b ≤ t)
   unfolding most
   reaches-fit = omega (arith, mul-le-mul (small .0) (small .1))
 
-  product-covered : natAbs a * natAbs b ≤ r * t
-  product-covered = mul-le-mul (covered .0) (covered .1)
+  product-covered : natAbs (a *ℤ b) ≤ r * t
+  product-covered = rw (abs-mul a b) (mul-le-mul (covered .0) (covered .1))
 
   rounded-small : natAbs (near (a *ℤ b) scale) ≤ 2 ^ 35
   unfolding scale
-  rounded-small = omega (arith, near-close (a *ℤ b) scale-positive, abs-mul a b, product-covered, reaches-fit)
+  rounded-small = omega (arith, near-close (a *ℤ b) scale-positive, product-covered, reaches-fit)
 
   error-small : (m : ℕ) {u : ℕ} → u ≡ up (r * t - m) scale + 1 → u ≤ 2 ^ 35
   unfolding scale
   error-small m e = omega (arith, e, up-close (r * t - m) scale-positive, reaches-fit)
 
-  module _ (a-fits : SFits w64 a) (b-fits : SFits w64 b) (sum : Ball) (sum-small : reach sum ≤ 2 ^ 40) {n : ℤ} (rounded : n ≡ near (toZ w64 (ofZ w64 a) *ℤ toZ w64 (ofZ w64 b)) scale) where
-    value-is : toZ w64 (ofZ w64 (sum .value)) +ℤ toZ w64 (ofZ w64 n) ≡ sum .value +ℤ near (a *ℤ b) scale
-    unfolding reach
-    value-is =
-        rw (rounded, toZ-ofZ a-fits, toZ-ofZ b-fits, toZ-ofZ (sfits-abs {w = w64} {z = sum .value} (omega (arith, sum-small))), toZ-ofZ (sfits-abs {w = w64} {z = near (a *ℤ b) scale} (omega (arith, rounded-small))))
+  module _ (a-fits : SFits w64 a) (b-fits : SFits w64 b) where
+    signed-is : toZ w64 (ofZ w64 a) *ℤ toZ w64 (ofZ w64 b) ≡ a *ℤ b
+    signed-is = rw (toZ-ofZ a-fits, toZ-ofZ b-fits)
 
-    value-fits : SFits w64 (toZ w64 (ofZ w64 (sum .value)) +ℤ toZ w64 (ofZ w64 n))
-    unfolding reach
-    value-fits =
-        rw value-is (sfits-abs (omega (arith, abs-add (sum .value) (near (a *ℤ b) scale), rounded-small, sum-small)))
+    signed-fits : SFits w64 (toZ w64 (ofZ w64 a) *ℤ toZ w64 (ofZ w64 b))
+    signed-fits = rw signed-is (sfits-abs (omega (arith, product-covered, reaches-fit)))
 
-magnitude-small : {n : ℤ} {r : ℕ} → SFits w64 n → natAbs n ≤ r → r ≤ most → natAbs (toZ w64 (ofZ w64 n)) < 2 ^ 31
-unfolding most
-magnitude-small f h small = rw (toZ-ofZ f) (omega arith)
+    signed-kept : toZ w64 (ofZ w64 (toZ w64 (ofZ w64 a) *ℤ toZ w64 (ofZ w64 b))) ≡ a *ℤ b
+    signed-kept = toZ-ofZ signed-fits ∙ signed-is
 
--- what the calls give, of the numbers themselves and not of their bits
-magnitudes-are : (c : tie.After-product2) →
-    let s = c .before .before .before .before in
-    c .product2 .result ≡ natAbs (s .args .a) * natAbs (s .args .b)
-magnitudes-are c =
-    let s = c .before .before .before .before in
-    c .product2 .ensures ∙ ap₂ _*_ (magnitude-is (s .fits .a) (c .before .before .magnitude .ensures)) (magnitude-is (s .fits .b) (c .before .magnitude2 .ensures))
+    module _ (sum : Ball) (sum-small : reach sum ≤ 2 ^ 40) {n : ℤ} (rounded : n ≡ near (toZ w64 (ofZ w64 (toZ w64 (ofZ w64 a) *ℤ toZ w64 (ofZ w64 b)))) scale) where
+      value-is : toZ w64 (ofZ w64 (sum .value)) +ℤ toZ w64 (ofZ w64 n) ≡ sum .value +ℤ near (a *ℤ b) scale
+      unfolding reach
+      value-is =
+          rw (rounded, signed-kept, toZ-ofZ (sfits-abs {w = w64} {z = sum .value} (omega (arith, sum-small))), toZ-ofZ (sfits-abs {w = w64} {z = near (a *ℤ b) scale} (omega (arith, rounded-small))))
 
-error-is : (c : tie.After-product2) →
-    let s = c .before .before .before .before in
-    c .before .before .before .product .result - c .product2 .result ≡ s .args .reach * s .args .other - natAbs (s .args .a *ℤ s .args .b)
-error-is c =
-    let s = c .before .before .before .before in
-    ap₂ _-_ (c .before .before .before .product .ensures) (magnitudes-are c ∙ sym (abs-mul (s .args .a) (s .args .b)))
+      value-fits : SFits w64 (toZ w64 (ofZ w64 (sum .value)) +ℤ toZ w64 (ofZ w64 n))
+      unfolding reach
+      value-fits =
+          rw value-is (sfits-abs (omega (arith, abs-add (sum .value) (near (a *ℤ b) scale), rounded-small, sum-small)))
+
+mul-signed : tie.Need-mul-signed
+mul-signed c = signed-fits (c .args .a) (c .args .b) (c .pre .0) (c .pre .1 .0) (c .fits .a) (c .fits .b)
 
 product-requires : tie.Need-product-requires
 unfolding most
@@ -72,61 +66,51 @@ product-requires c κs = search needs
 magnitude-requires : tie.Need-magnitude-requires
 magnitude-requires c κs = search needs
 
-magnitude-requires-2 : tie.Need-magnitude-requires-2
-magnitude-requires-2 c κs = search needs
-
-product-requires-2 : tie.Need-product-requires-2
-unfolding most
-product-requires-2 c κs =
-    let s = c .before .before .before in (
-      omega (arith, magnitude-is (s .fits .a) (c .before .magnitude .ensures), s .pre .0 .0, s .pre .1 .0),
-      omega (arith, magnitude-is (s .fits .b) (c .magnitude2 .ensures), s .pre .0 .1, s .pre .1 .0),
-    )
+-- what the two calls give, of the numbers themselves and not of their bits
+error-is : (c : tie.After-magnitude) →
+    let s = c .before .before in
+    c .before .product .result - c .magnitude .result ≡ s .args .reach * s .args .other - natAbs (s .args .a *ℤ s .args .b)
+error-is c =
+    let s = c .before .before in
+    ap₂ _-_ (c .before .product .ensures) (c .magnitude .ensures ∙ ap natAbs (signed-kept (s .args .a) (s .args .b) (s .pre .0) (s .pre .1 .0) (s .fits .a) (s .fits .b)))
 
 sub-error : tie.Need-sub-error
 sub-error c =
-    let s = c .before .before .before .before in
-    omega (arith, magnitudes-are c, c .before .before .before .product .ensures, product-covered (s .args .a) (s .args .b) (s .pre .0) (s .pre .1 .0))
+    let s = c .before .before in
+    omega (arith, c .before .product .ensures, c .magnitude .ensures ∙ ap natAbs (signed-kept (s .args .a) (s .args .b) (s .pre .0) (s .pre .1 .0) (s .fits .a) (s .fits .b)), product-covered (s .args .a) (s .args .b) (s .pre .0) (s .pre .1 .0))
 
-near-product-requires : tie.Need-near-product-requires
-near-product-requires c κs =
-    let s = c .before .before .before .before in (
-      omega arith,
-      (
-        magnitude-small (s .fits .a) (s .pre .0 .0) (s .pre .1 .0 .0),
-        magnitude-small (s .fits .b) (s .pre .0 .1) (s .pre .1 .0 .1),
-      ),
-    )
+near-requires : tie.Need-near-requires
+near-requires c κs = search needs
 
-add-t12 : tie.Need-add-t12
+add-t11 : tie.Need-add-t11
 unfolding scale
-add-t12 c =
-    let s = c .before .before .before .before .before .before .before in
-    value-fits (s .args .a) (s .args .b) (s .pre .0) (s .pre .1 .0) (s .fits .a) (s .fits .b) (s .args .sum) (s .pre .1 .1) (c .before .before .near-product .ensures)
+add-t11 c =
+    let s = c .before .before .before .before .before in
+    value-fits (s .args .a) (s .args .b) (s .pre .0) (s .pre .1 .0) (s .fits .a) (s .fits .b) (s .args .sum) (s .pre .1 .1) (c .before .before .near .ensures)
 
 up-and-one-requires : tie.Need-up-and-one-requires
 up-and-one-requires c κs =
-    let s = c .before .before .before .before .before .before .before in
+    let s = c .before .before .before .before .before in
     (omega arith, omega (arith, error-is (c .before .before .before), reaches-fit (s .args .a) (s .args .b) (s .pre .0) (s .pre .1 .0)))
 
 radius-is : (c : tie.After-up-and-one) →
-    let s = c .before .before .before .before .before .before .before .before in
+    let s = c .before .before .before .before .before .before in
     c .up-and-one .result ≡ up (s .args .reach * s .args .other - natAbs (s .args .a *ℤ s .args .b)) scale + 1
 unfolding scale
 radius-is c =
     c .up-and-one .ensures ∙ ap (λ (n : ℕ). up n scale + 1) (error-is (c .before .before .before .before))
 
-add-t10 : tie.Need-add-t10
+add-t9 : tie.Need-add-t9
 unfolding reach
-add-t10 c =
-    let s = c .before .before .before .before .before .before .before .before .before in
+add-t9 c =
+    let s = c .before .before .before .before .before .before .before in
     omega (arith, error-small (s .args .a) (s .args .b) (s .pre .0) (s .pre .1 .0) (natAbs (s .args .a *ℤ s .args .b)) (radius-is (c .before)), s .pre .1 .1)
 
 returns : tie.Need-returns
 unfolding scale
 returns c =
-    let s = c .before .before .before .before .before .before .before .before .before in
-    let n = c .before .before .before .before .near-product in (
+    let s = c .before .before .before .before .before .before .before in
+    let n = c .before .before .before .before .near in (
       toZ-ofZ (value-fits (s .args .a) (s .args .b) (s .pre .0) (s .pre .1 .0) (s .fits .a) (s .fits .b) (s .args .sum) (s .pre .1 .1) (n .ensures)) ∙ value-is (s .args .a) (s .args .b) (s .pre .0) (s .pre .1 .0) (s .fits .a) (s .fits .b) (s .args .sum) (s .pre .1 .1) (n .ensures),
       ap (λ (u : ℕ). s .args .sum .radius + u) (radius-is (c .before)),
     )
@@ -135,13 +119,12 @@ pub with-product-spec : {M : Type 1} → statement M
 with-product-spec =
     tie.close
     (tie.spec
+    mul-signed
     product-requires
     magnitude-requires
-    magnitude-requires-2
-    product-requires-2
     sub-error
-    near-product-requires
-    add-t12
+    near-requires
+    add-t11
     up-and-one-requires
-    add-t10
+    add-t9
     returns)
