@@ -36,10 +36,7 @@ impl Cursor {
         ensures { λ r. ⌜ wholeRead (now (text .entry)) r ≡ wholeAfter (now (key .entry)) minus (limitsOf limits) (rest (now (text .entry)) self) ⌝ }
     {
         match self.line(text, key, minus, limits) {
-            Line::Number(z, next) => WholeLine::Holds(Whole {
-                value: z,
-                next: next,
-            }),
+            Line::Number(z, next) => WholeLine::Holds(Whole { value: z, next }),
             Line::Misspelt => WholeLine::Fault(Refusal::Misspelt),
             Line::Outside => WholeLine::Fault(Refusal::OutOfRange),
         }
@@ -53,7 +50,7 @@ impl Cursor {
                 let next = field.next;
                 NaturalLine::Holds(Natural {
                     value: rounding::magnitude(field.value),
-                    next: next,
+                    next,
                 })
             }
             WholeLine::Fault(refusal) => NaturalLine::Fault(refusal),

@@ -77,8 +77,7 @@ fn read_quantity(text: &[u8], from: Cursor) -> QuantityLines
         WholeLine::Holds(field) => field,
         WholeLine::Fault(refusal) => return QuantityLines::Fault(refusal),
     };
-    let next = start.next;
-    let radius = match next.natural_field(text, b"radius=", limits::RADIUS) {
+    let radius = match start.next.natural_field(text, b"radius=", limits::RADIUS) {
         NaturalLine::Holds(field) => field,
         NaturalLine::Fault(refusal) => return QuantityLines::Fault(refusal),
     };
@@ -100,23 +99,19 @@ fn read_term(text: &[u8], n: usize, from: Cursor) -> TermLines
         NaturalLine::Holds(field) => field,
         NaturalLine::Fault(refusal) => return TermLines::Fault(refusal),
     };
-    let after_to = to.next;
-    let coef = match after_to.whole_field(text, b"coef=", true, limits::COEF) {
+    let coef = match to.next.whole_field(text, b"coef=", true, limits::COEF) {
         WholeLine::Holds(field) => field,
         WholeLine::Fault(refusal) => return TermLines::Fault(refusal),
     };
-    let after_coef = coef.next;
-    let first = match after_coef.natural_field(text, b"first=", limits::first_limits(n)) {
+    let first = match coef.next
+        .natural_field(text, b"first=", limits::first_limits(n)) {
         NaturalLine::Holds(field) => field,
         NaturalLine::Fault(refusal) => return TermLines::Fault(refusal),
     };
-    let after_first = first.next;
     let factor = first.value as usize;
-    let second = match after_first.natural_field(
-        text,
-        b"second=",
-        limits::second_limits(n, factor),
-    ) {
+    let second = match first
+        .next
+        .natural_field(text, b"second=", limits::second_limits(n, factor)) {
         NaturalLine::Holds(field) => field,
         NaturalLine::Fault(refusal) => return TermLines::Fault(refusal),
     };
@@ -139,23 +134,19 @@ fn read_head(text: &[u8], from: Cursor) -> HeadLines
         NaturalLine::Holds(field) => field,
         NaturalLine::Fault(refusal) => return HeadLines::Fault(refusal),
     };
-    let after_n = n.next;
-    let steps = match after_n.natural_field(text, b"steps=", limits::STEPS) {
+    let steps = match n.next.natural_field(text, b"steps=", limits::STEPS) {
         NaturalLine::Holds(field) => field,
         NaturalLine::Fault(refusal) => return HeadLines::Fault(refusal),
     };
-    let after_steps = steps.next;
-    let step = match after_steps.natural_field(text, b"step=", limits::STEP) {
+    let step = match steps.next.natural_field(text, b"step=", limits::STEP) {
         NaturalLine::Holds(field) => field,
         NaturalLine::Fault(refusal) => return HeadLines::Fault(refusal),
     };
-    let after_step = step.next;
-    let tail = match after_step.natural_field(text, b"tail=", limits::TAIL) {
+    let tail = match step.next.natural_field(text, b"tail=", limits::TAIL) {
         NaturalLine::Holds(field) => field,
         NaturalLine::Fault(refusal) => return HeadLines::Fault(refusal),
     };
-    let after_tail = tail.next;
-    let tol = match after_tail.natural_field(text, b"tol=", limits::TOL) {
+    let tol = match tail.next.natural_field(text, b"tol=", limits::TOL) {
         NaturalLine::Holds(field) => field,
         NaturalLine::Fault(refusal) => return HeadLines::Fault(refusal),
     };
@@ -188,7 +179,7 @@ fn read_quantities(text: &[u8], n: usize, from: Cursor) -> Quantities
             QuantityLines::Fault(refusal) => {
                 return Quantities {
                     outcome: Outcome::Refused(refusal, 0),
-                    list: list,
+                    list,
                     next: cursor,
                 };
             }
@@ -196,7 +187,7 @@ fn read_quantities(text: &[u8], n: usize, from: Cursor) -> Quantities
     }
     Quantities {
         outcome: Outcome::Accepted,
-        list: list,
+        list,
         next: cursor,
     }
 }
@@ -218,7 +209,7 @@ fn read_terms(text: &[u8], n: usize, count: usize, from: Cursor) -> Terms
             TermLines::Fault(refusal) => {
                 return Terms {
                     outcome: Outcome::Refused(refusal, 0),
-                    list: list,
+                    list,
                     next: cursor,
                 };
             }
@@ -226,7 +217,7 @@ fn read_terms(text: &[u8], n: usize, count: usize, from: Cursor) -> Terms
     }
     Terms {
         outcome: Outcome::Accepted,
-        list: list,
+        list,
         next: cursor,
     }
 }
@@ -265,13 +256,13 @@ fn refused(refusal: Refusal) -> Reading
         step: 0,
         tail: 0,
         tol: 0,
-        quantity: quantity,
+        quantity,
         terms: 0,
-        term: term,
+        term,
     };
     Reading {
         outcome: Outcome::Refused(refusal, 0),
-        sheet: sheet,
+        sheet,
     }
 }
 
@@ -304,18 +295,18 @@ fn after_head(text: &[u8], head: Head, from: Cursor) -> Reading
     let quantity = quantities.list;
     let term = terms.list;
     let sheet = Sheet {
-        n: n,
+        n,
         steps: head.steps,
         step: head.step as i64,
         tail: head.tail,
         tol: head.tol,
-        quantity: quantity,
+        quantity,
         terms: count.value as usize,
-        term: term,
+        term,
     };
     Reading {
         outcome: Outcome::Accepted,
-        sheet: sheet,
+        sheet,
     }
 }
 

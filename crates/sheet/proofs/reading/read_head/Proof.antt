@@ -21,13 +21,13 @@ text c = now (c .before .before .before .before .before .args .text)
 -- each field, from the one that was read after it
 
 abbrev n-of : tie.After-field2 → tie.After-field
-n-of c = c .before .before .before .before .before .before
+n-of c = c .before .before .before .before .before
 
 abbrev steps-of : tie.After-field3 → tie.After-field2
-steps-of c = c .before .before .before .before .before .before
+steps-of c = c .before .before .before .before .before
 
 abbrev step-of : tie.After-field4 → tie.After-field3
-step-of c = c .before .before .before .before .before .before
+step-of c = c .before .before .before .before .before
 
 n-read : (c : tie.After-field) → field "n" n-limits (rest (text c) (c .before .before .before .before .before .args .from)) ≡ parsed (c .field .given .0 .0 .value) (rest (text c) (c .field .given .0 .0 .next))
 unfolding limitsOf n-limits from_to_ bytes
@@ -55,21 +55,21 @@ returns-2 : tie.Need-returns-2
 unfolding headRead head limitsOf steps-limits from_to_ bytes
 returns-2 c =
     let refusal = c .before in
-    let n = refusal .before .before .before .before .before .before in
+    let n = refusal .before .before .before .before .before in
     sym (bind-parsed _ _ (n-read n) ∙ bind-fault _ _ (field-fault (text n) "steps" _ refl (refusal .before .before .natural-field2 .ensures) (refusal .refusal2 .given .1)))
 
 returns-3 : tie.Need-returns-3
 unfolding headRead head limitsOf step-limits from_to_ bytes
 returns-3 c =
     let refusal = c .before in
-    let steps = refusal .before .before .before .before .before .before in
+    let steps = refusal .before .before .before .before .before in
     sym (bind-parsed _ _ (n-read (n-of steps)) ∙ bind-parsed _ _ (steps-read steps) ∙ bind-fault _ _ (field-fault (text (n-of steps)) "step" _ refl (refusal .before .before .natural-field3 .ensures) (refusal .refusal3 .given .1)))
 
 returns-4 : tie.Need-returns-4
 unfolding headRead head limitsOf tail-limits from_to_ bytes
 returns-4 c =
     let refusal = c .before in
-    let step = refusal .before .before .before .before .before .before in
+    let step = refusal .before .before .before .before .before in
     let steps = steps-of step in
     sym (bind-parsed _ _ (n-read (n-of steps)) ∙ bind-parsed _ _ (steps-read steps) ∙ bind-parsed _ _ (step-read step) ∙ bind-fault _ _ (field-fault (text (n-of steps)) "tail" _ refl (refusal .before .before .natural-field4 .ensures) (refusal .refusal4 .given .1)))
 
@@ -77,7 +77,7 @@ returns-5 : tie.Need-returns-5
 unfolding headRead head limitsOf tol-limits from_to_ most bytes
 returns-5 c =
     let refusal = c .before in
-    let tail = refusal .before .before .before .before .before .before in
+    let tail = refusal .before .before .before .before .before in
     let step = step-of tail in
     let steps = steps-of step in
     sym (bind-parsed _ _ (n-read (n-of steps)) ∙ bind-parsed _ _ (steps-read steps) ∙ bind-parsed _ _ (step-read step) ∙ bind-parsed _ _ (tail-read tail) ∙ bind-fault _ _ (field-fault (text (n-of steps)) "tol" _ refl (refusal .before .before .natural-field5 .ensures) (refusal .refusal5 .given .1)))
@@ -86,7 +86,7 @@ returns-6 : tie.Need-returns-6
 unfolding headRead head return limitsOf tol-limits from_to_ most bytes
 returns-6 c =
     let tol = c .before .before in
-    let tail = tol .before .before .before .before .before .before in
+    let tail = tol .before .before .before .before .before in
     let step = step-of tail in
     let steps = steps-of step in
     sym (bind-parsed _ _ (n-read (n-of steps)) ∙ bind-parsed _ _ (steps-read steps) ∙ bind-parsed _ _ (step-read step) ∙ bind-parsed _ _ (tail-read tail) ∙ bind-parsed _ _ (field-holds (text (n-of steps)) "tol" _ refl (tol .before .before .natural-field5 .ensures) (tol .field5 .given .1)))

@@ -35,14 +35,14 @@ returns-2 : tie.Need-returns-2
 unfolding quantityRead quantity limitsOf radius-limits from_to_ most bytes
 returns-2 c =
     let refusal = c .before in
-    let first = refusal .before .before .before .before .before .before in
+    let first = refusal .before .before .before .before .before in
     sym (bind-parsed _ _ (start-read first) ∙ bind-fault _ _ (field-fault (text first) "radius" _ refl (refusal .before .before .natural-field .ensures) (refusal .refusal2 .given .1)))
 
 returns-3 : tie.Need-returns-3
 unfolding quantityRead quantity return limitsOf radius-limits from_to_ most bytes
 returns-3 c =
     let radius = c .before .before .before in
-    let first = radius .before .before .before .before .before .before in
+    let first = radius .before .before .before .before .before in
     rw (toZ-ofZ (record { sfits = c .struct-told .given .0 .1 }))
     (sym (bind-parsed _ _ (start-read first) ∙ bind-parsed _ _ (field-holds (text first) "radius" _ refl (radius .before .before .natural-field .ensures) (radius .field2 .given .1))))
 

@@ -25,10 +25,10 @@ n c = c .before .before .before .before .before .before .args .n
 -- each field, from the one that was read after it
 
 abbrev to-of : tie.After-field2 → tie.After-field
-to-of c = c .before .before .before .before .before .before
+to-of c = c .before .before .before .before .before
 
 abbrev coef-of : tie.After-field3 → tie.After-field2
-coef-of c = c .before .before .before .before .before .before .before
+coef-of c = c .before .before .before .before .before .before
 
 to-read : (c : tie.After-field) → field "to" (to-limits (n c)) (rest (text c) (c .before .before .before .before .before .before .args .from)) ≡ parsed (c .field .given .0 .0 .value) (rest (text c) (c .field .given .0 .0 .next))
 unfolding bytes
@@ -44,7 +44,7 @@ first-read c = field-holds (text (to-of (coef-of c))) "first" _ (c .before .befo
 
 second-limits-requires : tie.Need-second-limits-requires
 second-limits-requires c κs =
-    let first = c .before .before .before in
+    let first = c .before .before in
     to-of (coef-of first) .before .before .before .before .before .before .pre
 
 returns : tie.Need-returns
@@ -57,21 +57,21 @@ returns-2 : tie.Need-returns-2
 unfolding termRead term limitsOf coef-limits ±_ bytes
 returns-2 c =
     let refusal = c .before in
-    let to = refusal .before .before .before .before .before .before in
+    let to = refusal .before .before .before .before .before in
     sym (bind-parsed _ _ (to-read to) ∙ bind-fault _ _ (signed-fault (text to) "coef" _ refl (refusal .before .before .whole-field .ensures) (refusal .refusal2 .given .1)))
 
 returns-3 : tie.Need-returns-3
 unfolding termRead term bytes
 returns-3 c =
     let refusal = c .before in
-    let coef = refusal .before .before .before .before .before .before .before in
+    let coef = refusal .before .before .before .before .before .before in
     sym (bind-parsed _ _ (to-read (to-of coef)) ∙ bind-parsed _ _ (coef-read coef) ∙ bind-fault _ _ (field-fault (text (to-of coef)) "first" _ (refusal .before .before .before .first-limits .ensures) (refusal .before .before .natural-field2 .ensures) (refusal .refusal3 .given .1)))
 
 returns-4 : tie.Need-returns-4
 unfolding termRead term bytes
 returns-4 c =
     let refusal = c .before in
-    let first = refusal .before .before .before .before .before .before .before in
+    let first = refusal .before .before .before .before .before .before in
     let coef = coef-of first in
     sym (bind-parsed _ _ (to-read (to-of coef)) ∙ bind-parsed _ _ (coef-read coef) ∙ bind-parsed _ _ (first-read first) ∙ bind-fault _ _ (field-fault (text (to-of coef)) "second" _ (refusal .before .before .before .second-limits .ensures) (refusal .before .before .natural-field3 .ensures) (refusal .refusal4 .given .1)))
 
@@ -79,7 +79,7 @@ returns-5 : tie.Need-returns-5
 unfolding termRead term return bytes
 returns-5 c =
     let second = c .before .before .before in
-    let first = second .before .before .before .before .before .before .before in
+    let first = second .before .before .before .before .before .before in
     let coef = coef-of first in
     rw (toZ-ofZ (record { sfits = c .struct-told .given .0 .1 }))
     (sym (bind-parsed _ _ (to-read (to-of coef)) ∙ bind-parsed _ _ (coef-read coef) ∙ bind-parsed _ _ (first-read first) ∙ bind-parsed _ _ (field-holds (text (to-of coef)) "second" _ (second .before .before .before .second-limits .ensures) (second .before .before .natural-field3 .ensures) (second .field4 .given .1))))
