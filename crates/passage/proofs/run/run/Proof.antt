@@ -1,6 +1,12 @@
 -- `passage::run::run` meets its contract. Assumes nothing.
+use mathlib.Core.List.{List}
+use mathlib.Core.Path.{_≡_}
 use native.Mathlib.Omega.{arith}
-use Rattle.model.specs.Sheet.{sheetVerdict}
+use lib.IntN.{ℤ}
+use Rattle.model.specs.declared.Outcome.{Outcome}
+use Rattle.model.specs.declared.Refusal.{Refusal}
+use Rattle.model.specs.declared.Sheet.{Sheet}
+use Rattle.model.specs.Sheet.{sheetVerdict, refuses}
 use Rattle.model.specs.Passage.{placesNeeded, width}
 use Rattle.model.proofs.SheetBounds.{bounds-of-sheet}
 use Rattle.sheet.specs.Verdicts.{outcome}
@@ -8,10 +14,16 @@ use Rattle.sheet.proofs.Verdicts.{refuses-as}
 use Rattle.coefficients.specs.Layout.{quantities}
 use Rattle.passage.proofs.Rows.{rows-fit}
 use Rattle.passage.proofs.Counts.{step-is-its-bits, passed}
+use Rattle.passage.specs.Promise.{Kept}
 use Rattle.passage.proofs.Kept.{kept-refused, kept-too-few-places, kept-run, promised}
 use borrow.Author.Needs.{needs}
 use Rattle.passage.proofs.run.run.Statement.{statement}
 use Rattle.passage.proofs.run.run.Tie as tie
+
+-- the outcome of a verdict that refuses
+verdict-kept : (sheet : Sheet) (buffer : List ℤ) {given : Outcome} {r : Refusal} → given ≡ outcome (sheetVerdict sheet) → sheetVerdict sheet ≡ refuses r → Kept sheet buffer buffer given
+unfolding outcome
+verdict-kept sheet buffer e refused = rw (e, refused) (kept-refused sheet buffer refused)
 
 verdict-requires : tie.Need-verdict-requires
 verdict-requires c κs = search needs
@@ -20,12 +32,11 @@ enum-told : tie.Need-enum-told
 enum-told c = search needs
 
 returns : tie.Need-returns
-unfolding outcome
 returns c =
     let a = c .before .before .before in
     let verdict = c .before .before .verdict in
     let refused = refuses-as (sheetVerdict (a .args .sheet)) (verdict .ensures) (c .enum-told .given .1) in
-    promised (a .args .sheet) (rw (verdict .ensures, refused) (kept-refused (a .args .sheet) (a .args .rows .now) refused))
+    promised (a .args .sheet) (verdict-kept (a .args .sheet) (a .args .rows .now) (verdict .ensures) refused)
 
 enum-told-2 : tie.Need-enum-told-2
 enum-told-2 c = search needs
