@@ -1,4 +1,5 @@
 -- `passage::run::run` meets its contract. Assumes nothing.
+use Prim.Native.Nat.{ℕ}
 use mathlib.Core.List.{List}
 use mathlib.Core.Path.{_≡_}
 use native.Mathlib.Omega.{arith}
@@ -6,8 +7,10 @@ use lib.IntN.{ℤ}
 use Rattle.model.specs.declared.Outcome.{Outcome}
 use Rattle.model.specs.declared.Refusal.{Refusal}
 use Rattle.model.specs.declared.Sheet.{Sheet}
+use Rattle.model.specs.declared.Term.{Term}
 use Rattle.model.specs.Sheet.{sheetVerdict, refuses}
 use Rattle.model.specs.Passage.{placesNeeded, width}
+use Rattle.model.proofs.Bounds.{TermsInBounds}
 use Rattle.model.proofs.SheetBounds.{bounds-of-sheet}
 use Rattle.sheet.specs.Verdicts.{outcome}
 use Rattle.sheet.proofs.Verdicts.{refuses-as}
@@ -24,6 +27,10 @@ use Rattle.passage.proofs.run.run.Tie as tie
 verdict-kept : (sheet : Sheet) (buffer : List ℤ) {given : Outcome} {r : Refusal} → given ≡ outcome (sheetVerdict sheet) → sheetVerdict sheet ≡ refuses r → Kept sheet buffer buffer given
 unfolding outcome
 verdict-kept sheet buffer e refused = rw (e, refused) (kept-refused sheet buffer refused)
+
+-- the sheet's terms and step are those that the steps are handed
+handed : (n : ℕ) {terms known : List Term} {step H : ℤ} → terms ≡ known → step ≡ H → TermsInBounds known H n → TermsInBounds terms step n
+handed n e f bounds = rw (e, f) bounds
 
 verdict-requires : tie.Need-verdict-requires
 verdict-requires c κs = search needs
@@ -77,7 +84,7 @@ run-steps-requires c κs =
     let told = room .before .before in
     let sheet = told .before .before .before .args .sheet in
     let p = passed sheet (told .before .before .verdict .ensures) (told .enum-told2 .given .1) in
-    (rw (step-is-its-bits sheet (p .0), laid .terms-of .ensures) (bounds-of-sheet sheet (p .1)), ((p .0 .n-high, p .0 .terms-high, p .0 .steps-high), ((p .0 .tail-low, omega (arith, p .0 .tail-high), omega (arith, p .0 .tol-high)), rw (room .before .width .ensures) at (room .if1 .left))))
+    (handed (sheet .n) (laid .terms-of .ensures) (step-is-its-bits sheet (p .0)) (bounds-of-sheet sheet (p .1)), ((p .0 .n-high, p .0 .terms-high, p .0 .steps-high), ((p .0 .tail-low, omega (arith, p .0 .tail-high), omega (arith, p .0 .tol-high)), rw (room .before .width .ensures) at (room .if1 .left))))
 
 same-length : tie.Need-same-length
 same-length c = search needs
