@@ -22,16 +22,16 @@ use rounding::near;
 use rounding::product;
 use rounding::up_and_one;
 
-// S and F with the product of a and b more: `reach` and `other` are |c| + e of the two.
-fn with_product(sum: Ball, a: i64, b: i64, reach: u64, other: u64) -> Ball
-    requires { ⌜ (natAbs a ≤ reach) × (natAbs b ≤ other) ⌝ }
-    requires { ⌜ (reach ≤ most) × (other ≤ most) ⌝ }
+// S and F with the product of the coefficients a and b more. |c| + e of the two is m and n.
+fn with_product(sum: Ball, a: i64, b: i64, m: u64, n: u64) -> Ball
+    requires { ⌜ (natAbs a ≤ m) × (natAbs b ≤ n) ⌝ }
+    requires { ⌜ (m ≤ most) × (n ≤ most) ⌝ }
     requires { ⌜ rule.reach sum ≤ 2 ^ 40 ⌝ }
     ensures { λ r. ⌜ r .value ≡ sum .value +ℤ round.near (a *ℤ b) scale ⌝ }
-    ensures { λ r. ⌜ r .radius ≡ sum .radius + (round.up (reach * other - natAbs (a *ℤ b)) scale + 1) ⌝ }
+    ensures { λ r. ⌜ r .radius ≡ sum .radius + (round.up (m * n - natAbs (a *ℤ b)) scale + 1) ⌝ }
 {
     let signed = a * b;
-    let error = product(reach, other) - magnitude(signed);
+    let error = product(m, n) - magnitude(signed);
     Ball {
         value: sum.value + near(signed, SCALE),
         radius: sum.radius + up_and_one(error, SCALE),

@@ -30,15 +30,15 @@ radius-le-reach ball = omega arith
 
 -- ---- two factors
 
-module _ (table : Coefficients) (k : ℕ) {G : ℕ} (reaches : FactorsReach table k G) (small : G ≤ most) where
-  square-bounded : (a b : ℕ) → a ≤ G → b ≤ G → a * b ≤ 2 ^ 58
-  unfolding most
-  square-bounded a b h l = le-trans (mul-le-mul h l) (mul-le-mul small small)
+pub reaches-fit : {a b : ℕ} → a ≤ most → b ≤ most → a * b ≤ 2 ^ 58
+unfolding most
+reaches-fit h l = mul-le-mul h l
 
+module _ (table : Coefficients) (k : ℕ) {G : ℕ} (reaches : FactorsReach table k G) (small : G ≤ most) where
   -- |c×c'|, and what is rounded up for F, together
   pub product-fits : (first second l : ℕ) → l ≤ k → natAbs (factor table l first .value *ℤ factor table (k - l) second .value) + productRadius (factor table l first) (factor table (k - l) second) ≤ 2 ^ 58
   product-fits first second l h =
-      rw (reach-product (factor table l first) (factor table (k - l) second)) (square-bounded _ _ (reaches l h first) (reaches (k - l) (omega arith) second))
+      rw (reach-product (factor table l first) (factor table (k - l) second)) (reaches-fit (le-trans (reaches l h first) small) (le-trans (reaches (k - l) (omega arith) second) small))
 
   -- S and F, as far as they are summed up
   pub products-fit : (first second m : ℕ) → m ≤ suc k → k < 28 → reach (partialProducts table k first second m) ≤ 28 * (2 ^ 34 + 3)

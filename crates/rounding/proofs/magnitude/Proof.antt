@@ -44,6 +44,12 @@ module _ (n : ℤ) (f : SFits w64 n) (t : ltZ n (pos 0) ≡ true) where
   one-more-fits : Fits w64 (natAbs (toZ w64 (ofZ w64 (pos 0 -ℤ toZ w64 (ofZ w64 (toZ w64 (ofZ w64 n) +ℤ pos 1))))) + 1)
   one-more-fits = rw one-more (fits-natAbs tt f)
 
+returns : tie.Need-returns
+returns c = one-more (c .before .args .n) (c .before .fits .n) (sign-test (c .before .fits .n) (c .if1 .taken))
+
+returns-2 : tie.Need-returns-2
+returns-2 c = search needs
+
 natural-casts : (n : ℤ) → SFits w64 n → ltZ n (pos 0) ≡ false → T (nonNeg (toZ w64 (ofZ w64 n))) × Fits w64 (natAbs (toZ w64 (ofZ w64 n)))
 natural-casts n f t = rw (toZ-ofZ f) (rw (not-negative n t) tt, fits-natAbs tt f)
 
@@ -61,12 +67,6 @@ add-result c = one-more-fits (c .before .args .n) (c .before .fits .n) (sign-tes
 
 cast-result-2 : tie.Need-cast-result-2
 cast-result-2 c = natural-casts (c .before .args .n) (c .before .fits .n) (sign-test (c .before .fits .n) (c .if1 .left))
-
-returns : tie.Need-returns
-returns c = one-more (c .before .args .n) (c .before .fits .n) (sign-test (c .before .fits .n) (c .if1 .taken))
-
-returns-2 : tie.Need-returns-2
-returns-2 c = search needs
 
 pub magnitude-spec : {M : Type 1} → statement M
 magnitude-spec =

@@ -13,6 +13,9 @@ use borrow.Author.Needs.{needs}
 use Rattle.rounding.proofs.negated.Statement.{statement}
 use Rattle.rounding.proofs.negated.Tie as tie
 
+returns : tie.Need-returns
+returns c = sym (ap (λ (k : ℕ). negℤ (pos k)) (c .if1 .taken))
+
 module _ (m : ℕ) (h : m ≤ 2 ^ 63) (n : m ≢ 0) where
   value : negsuc 0 -ℤ toZ w64 (m - 1) ≡ negsuc (m - 1)
   value = rw (toZ-pos w64 {n = m - 1} (omega arith)) (one-below (m - 1))
@@ -26,6 +29,9 @@ module _ (m : ℕ) (h : m ≤ 2 ^ 63) (n : m ≢ 0) where
       one-more : suc (m - 1) ≡ m
       one-more = omega arith
 
+returns-2 : tie.Need-returns-2
+returns-2 c = result (c .before .args .m) (c .before .pre) (c .if1 .left)
+
 sub-below : tie.Need-sub-below
 sub-below c = search needs
 
@@ -34,12 +40,6 @@ cast-below c = search needs
 
 sub-result : tie.Need-sub-result
 sub-result c = value-fits (c .before .args .m) (c .before .pre) (c .if1 .left)
-
-returns : tie.Need-returns
-returns c = sym (ap (λ (k : ℕ). negℤ (pos k)) (c .if1 .taken))
-
-returns-2 : tie.Need-returns-2
-returns-2 c = result (c .before .args .m) (c .before .pre) (c .if1 .left)
 
 pub negated-spec : {M : Type 1} → statement M
 negated-spec = tie.close (tie.spec sub-below cast-below sub-result returns returns-2)

@@ -24,6 +24,12 @@ module _ (n d : ℕ) (h : 0 < d) where
       share : (k : ℕ) → n ≤ k * d → n / d * d < k * d
       share k b = omega (arith, div-add-mod' n d)
 
+returns : tie.Need-returns
+returns c = exact (c .before .args .n) (c .before .args .d) (c .before .pre) (c .if1 .taken)
+
+returns-2 : tie.Need-returns-2
+returns-2 c = short (c .before .args .n) (c .before .args .d) (c .before .pre) (c .if1 .left)
+
 div-quotient : tie.Need-div-quotient
 div-quotient c = search needs
 
@@ -35,12 +41,6 @@ add-result c =
     let n = c .before .args .n in
     let d = c .before .args .d in
     omega (arith, div-add-mod' n d, le-mul-of-pos-right (n / d) (c .before .pre), c .if1 .left)
-
-returns : tie.Need-returns
-returns c = exact (c .before .args .n) (c .before .args .d) (c .before .pre) (c .if1 .taken)
-
-returns-2 : tie.Need-returns-2
-returns-2 c = short (c .before .args .n) (c .before .args .d) (c .before .pre) (c .if1 .left)
 
 pub up-spec : {M : Type 1} → statement M
 up-spec = tie.close (tie.spec div-quotient rem-if1 add-result returns returns-2)

@@ -21,6 +21,16 @@ use Rattle.answer.proofs.text.put_balls.Tie as tie
 lines : ℕ → List ℤ → ℕ → ℕ → List ℕ
 lines n rows first i = ballsText (tabulate i (ballFrom n rows first))
 
+abbrev Inv-loop : tie.InvT-loop
+Inv-loop text₀ at n rows row first next₀ i₀ text next i = (i ≤ n) × (next ≤ at + i * most-ball) × Put text₀ at (lines n rows first i) next text
+
+abbrev μ-loop : tie.MeasureT-loop
+μ-loop text₀ at n rows row first next₀ i₀ text next i = n - i
+
+loop-holds : tie.Need-loop-holds Inv-loop μ-loop
+unfolding lines tabulate ballsText
+loop-holds c = (omega arith, omega arith, put-nothing _ _)
+
 -- what the code hands over of a ball are its bits
 ball-lines : (n : ℕ) (rows : List ℤ) (first i : ℕ) → SFits w64 (getD rows (first + i) (pos 0)) → SFits w64 (getD rows (first + n + i) (pos 0)) → ballsText (record { value = toZ w64 (ofZ w64 (getD rows (first + i) (pos 0))); radius = natAbs (toZ w64 (ofZ w64 (getD rows (first + n + i) (pos 0)))) } ∷ []) ≡ ballsText (ballFrom n rows first i ∷ [])
 unfolding ballFrom
@@ -30,15 +40,23 @@ lines-grow : (n : ℕ) (rows : List ℤ) (first : ℕ) → Grows (lines n rows f
 unfolding lines
 lines-grow n rows first = balls-grow (ballFrom n rows first)
 
+loop-again : tie.Need-loop-again Inv-loop μ-loop
+loop-again c =
+    let read = c .before .before .before .before in
+    let t = read .before .before .before in
+    let a = t .before .before .args in
+    let first = a .row * (2 * a .n + 1) + 1 in
+    (omega arith, omega (arith, t .loop .inv .1, c .before .before .put-ball .ensures .1), put-turn (lines (a .n) (a .rows .now) first) _ (lines-grow (a .n) (a .rows .now) first) (t .loop .i) (t .loop .inv .2) (put-same (ball-lines (a .n) (a .rows .now) first (t .loop .i) (record { sfits = read .before .value .given }) (record { sfits = read .radius .given })) (c .before .before .put-ball .ensures .0)))
+
 row-lines : (n : ℕ) (rows : List ℤ) (row : ℕ) → ballsText (rowIn n rows row .balls) ≡ lines n rows (row * (2 * n + 1) + 1) n
 unfolding lines width
 row-lines n rows row = ap ballsText (row-balls n rows row)
 
-abbrev Inv-loop : tie.InvT-loop
-Inv-loop text₀ at n rows row first next₀ i₀ text next i = (i ≤ n) × (next ≤ at + i * most-ball) × Put text₀ at (lines n rows first i) next text
-
-abbrev μ-loop : tie.MeasureT-loop
-μ-loop text₀ at n rows row first next₀ i₀ text next i = n - i
+returns : tie.Need-returns Inv-loop μ-loop
+returns c =
+    let a = c .before .before .before .args in
+    let all : c .before .loop .i ≡ a .n = omega arith in
+    (put-same (ap (lines (a .n) (a .rows .now) (a .row * (2 * a .n + 1) + 1)) all ∙ sym (row-lines (a .n) (a .rows .now) (a .row))) (c .before .loop .inv .2), omega arith)
 
 mul-first : tie.Need-mul-first Inv-loop μ-loop
 unfolding width
@@ -55,10 +73,6 @@ mul-first-2 c = omega arith
 add-first-2 : tie.Need-add-first-2 Inv-loop μ-loop
 unfolding width
 add-first-2 c = omega arith
-
-loop-holds : tie.Need-loop-holds Inv-loop μ-loop
-unfolding lines tabulate ballsText
-loop-holds c = (omega arith, omega arith, put-nothing _ _)
 
 add-value : tie.Need-add-value Inv-loop μ-loop
 unfolding width
@@ -97,22 +111,8 @@ add-i c = omega arith
 loop-less : tie.Need-loop-less Inv-loop μ-loop
 loop-less c = omega arith
 
-loop-again : tie.Need-loop-again Inv-loop μ-loop
-loop-again c =
-    let read = c .before .before .before .before in
-    let t = read .before .before .before in
-    let a = t .before .before .args in
-    let first = a .row * (2 * a .n + 1) + 1 in
-    (omega arith, omega (arith, t .loop .inv .1, c .before .before .put-ball .ensures .1), put-turn (lines (a .n) (a .rows .now) first) _ (lines-grow (a .n) (a .rows .now) first) (t .loop .i) (t .loop .inv .2) (put-same (ball-lines (a .n) (a .rows .now) first (t .loop .i) (record { sfits = read .before .value .given }) (record { sfits = read .radius .given })) (c .before .before .put-ball .ensures .0)))
-
 same-length : tie.Need-same-length Inv-loop μ-loop
 same-length c = put-keeps-length (c .before .loop .inv .2)
-
-returns : tie.Need-returns Inv-loop μ-loop
-returns c =
-    let a = c .before .before .before .args in
-    let all : c .before .loop .i ≡ a .n = omega arith in
-    (put-same (ap (lines (a .n) (a .rows .now) (a .row * (2 * a .n + 1) + 1)) all ∙ sym (row-lines (a .n) (a .rows .now) (a .row))) (c .before .loop .inv .2), omega arith)
 
 pub put-balls-spec : {M : Type 1} → statement M
 put-balls-spec =

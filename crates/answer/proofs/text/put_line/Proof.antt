@@ -6,6 +6,12 @@ use borrow.Author.Needs.{needs}
 use Rattle.answer.proofs.text.put_line.Statement.{statement}
 use Rattle.answer.proofs.text.put_line.Tie as tie
 
+returns : tie.Need-returns
+unfolding bytes
+returns c =
+    let number = c .before .before .before .before .before .before in
+    put-then (put-then (number .before .before .before .before .put-bytes .ensures) (number .put-natural .ensures)) (c .before .before .put-byte .ensures)
+
 put-bytes-requires : tie.Need-put-bytes-requires
 put-bytes-requires c κs = countable-first _ (countable-first _ (c .before .before .before .pre))
 
@@ -21,12 +27,6 @@ put-byte-requires c κs =
 
 same-length : tie.Need-same-length
 same-length c = search needs
-
-returns : tie.Need-returns
-unfolding bytes
-returns c =
-    let number = c .before .before .before .before .before .before in
-    put-then (put-then (number .before .before .before .before .put-bytes .ensures) (number .put-natural .ensures)) (c .before .before .put-byte .ensures)
 
 pub put-line-spec : {M : Type 1} → statement M
 put-line-spec =

@@ -26,6 +26,20 @@ module _ (z : ℤ) (m : ℕ) (f : SFits w64 z) (e : m ≡ natAbs (toZ w64 (ofZ w
   unfolding bytes printed
   natural-line t = rw (e, toZ-ofZ f, decimal-natural z (rw (toZ-ofZ f) at t))
 
+returns : tie.Need-returns
+unfolding bytes
+returns c =
+    let s = c .before .before .before .before .before .before .before .before in
+    let m = c .before .before .before .magnitude in
+    put-same (sym (negative-line (s .args .value) (m .result) (s .fits .value) (m .ensures) (c .before .before .before .before .before .before .if1 .taken))) (c .before .before .put-line .ensures)
+
+returns-2 : tie.Need-returns-2
+unfolding bytes
+returns-2 c =
+    let s = c .before .before .before .before .before .before .before .before in
+    let m = c .before .before .before .magnitude2 in
+    put-same (sym (natural-line (s .args .value) (m .result) (s .fits .value) (m .ensures) (c .before .before .before .before .before .before .if1 .left))) (c .before .before .put-line2 .ensures)
+
 slice-aggregate-put-line : tie.Need-slice-aggregate-put-line
 slice-aggregate-put-line c = search needs
 
@@ -53,22 +67,8 @@ put-line-requires-2 c κs =
 same-length : tie.Need-same-length
 same-length c = search needs
 
-returns : tie.Need-returns
-unfolding bytes
-returns c =
-    let s = c .before .before .before .before .before .before .before .before in
-    let m = c .before .before .before .magnitude in
-    put-same (sym (negative-line (s .args .value) (m .result) (s .fits .value) (m .ensures) (c .before .before .before .before .before .before .if1 .taken))) (c .before .before .put-line .ensures)
-
 same-length-2 : tie.Need-same-length-2
 same-length-2 c = search needs
-
-returns-2 : tie.Need-returns-2
-unfolding bytes
-returns-2 c =
-    let s = c .before .before .before .before .before .before .before .before in
-    let m = c .before .before .before .magnitude2 in
-    put-same (sym (natural-line (s .args .value) (m .result) (s .fits .value) (m .ensures) (c .before .before .before .before .before .before .if1 .left))) (c .before .before .put-line2 .ensures)
 
 pub put-value-spec : {M : Type 1} → statement M
 put-value-spec =

@@ -20,13 +20,6 @@ use borrow.Author.Needs.{needs}
 use Rattle.coefficients.proofs.orders.close_coefficient.Statement.{statement}
 use Rattle.coefficients.proofs.orders.close_coefficient.Tie as tie
 
-reach-fits : (c : ℤ) (radius k : ℕ) {m u : ℕ} → SFits w64 c → m ≡ natAbs (toZ w64 (ofZ w64 c)) → u ≡ up radius (k + 1) + 1 → radius < 2 ^ 62 → m + u < 2 ^ 64
-reach-fits c radius k f magnitude upper small =
-    omega (arith, magnitude-is f magnitude, upper, abs-of-fits f, up-is-least radius positive radius (le-mul-of-pos-right radius positive))
-  where
-    positive : 0 < k + 1
-    positive = omega arith
-
 written : {values : List ℤ} {reaches : List ℕ} {sum c : ℤ} {i k : ℕ} (radius : ℕ) {m u : ℕ} → Table values reaches → i < quantities → k < 28 → SFits w64 sum → SFits w64 c →
     c ≡ near (toZ w64 (ofZ w64 sum)) (k + 1) → m ≡ natAbs (toZ w64 (ofZ w64 c)) → u ≡ up radius (k + 1) + 1 →
     Written (suc k) i (closed k (record { value = sum; radius = radius })) values reaches (set values (i * 29 + k + 1) (toZ w64 (ofZ w64 c))) (set reaches (i * 29 + k + 1) (m + u))
@@ -39,6 +32,18 @@ written {sum} {c} {i} {k} radius {m} {u} table quantity order f g value magnitud
 
     reached : m + u ≡ natAbs c + (up radius (suc k) + 1)
     reached = omega (arith, magnitude-is g magnitude, upper ∙ ap (λ (d : ℕ). up radius d + 1) (add-one k))
+
+returns : tie.Need-returns
+returns c =
+    let a = c .before .before .before in
+    written (a .args .radius) (a .pre .1 .1) (a .pre .0 .0) (a .pre .0 .1) (a .fits .sum) (record { sfits = c .before .before .near .ok }) (c .before .before .near .ensures) (c .before .magnitude .ensures) (c .up-and-one .ensures)
+
+reach-fits : (c : ℤ) (radius k : ℕ) {m u : ℕ} → SFits w64 c → m ≡ natAbs (toZ w64 (ofZ w64 c)) → u ≡ up radius (k + 1) + 1 → radius < 2 ^ 62 → m + u < 2 ^ 64
+reach-fits c radius k f magnitude upper small =
+    omega (arith, magnitude-is f magnitude, upper, abs-of-fits f, up-is-least radius positive radius (le-mul-of-pos-right radius positive))
+  where
+    positive : 0 < k + 1
+    positive = omega arith
 
 add-order : tie.Need-add-order
 add-order c = search needs
@@ -87,11 +92,6 @@ mul-reaches c = omega arith
 element-write-reaches : tie.Need-element-write-reaches
 unfolding quantities
 element-write-reaches c = omega arith
-
-returns : tie.Need-returns
-returns c =
-    let a = c .before .before .before in
-    written (a .args .radius) (a .pre .1 .1) (a .pre .0 .0) (a .pre .0 .1) (a .fits .sum) (record { sfits = c .before .before .near .ok }) (c .before .before .near .ensures) (c .before .magnitude .ensures) (c .up-and-one .ensures)
 
 pub close-coefficient-spec : {M : Type 1} → statement M
 close-coefficient-spec =

@@ -13,15 +13,33 @@ use Rattle.coefficients.proofs.Convolution.{no-products, all-products, 
 use Rattle.coefficients.proofs.orders.convolution.Statement.{statement}
 use Rattle.coefficients.proofs.orders.convolution.Tie as tie
 
-whole : (table : Coefficients) (k first second l : ℕ) {sum : Ball} → l ≤ suc k → k < l → 1 ≤ second → sum ≡ partialProducts table k first second l → sum ≡ products table k first second
-whole table k first second l h past there e =
-    e ∙ ap (partialProducts table k first second) (omega (arith, h, past)) ∙ all-products table k first second there
-
 abbrev Inv-loop : tie.InvT-loop
 Inv-loop values reaches k first second a b sum₀ l₀ sum l = (l ≤ suc k) × (sum ≡ partialProducts (tableIn k values reaches) k first second l)
 
 abbrev μ-loop : tie.MeasureT-loop
 μ-loop values reaches k first second a b sum₀ l₀ sum l = suc k - l
+
+loop-holds : tie.Need-loop-holds Inv-loop μ-loop
+loop-holds c = (omega arith, no-products _ _ _ _)
+
+loop-again : tie.Need-loop-again Inv-loop μ-loop
+unfolding scale
+loop-again c =
+    let a = c .before .before .before .before .before .before .before in
+    let turn = c .before .before .before .before .before .before .loop in
+    let test = c .before .before .before .before .before .loop-test in (
+      omega (arith, test .taken),
+      rw (add-one (turn .l)) (one-product-more (a .pre .0) (a .args .first) (a .args .second) (a .pre .1 .1 .0) (a .pre .1 .1 .1) (turn .l) (test .taken) (turn .inv .1) (c .with-product .ensures .0) (c .with-product .ensures .1)),
+    )
+
+whole : (table : Coefficients) (k first second l : ℕ) {sum : Ball} → l ≤ suc k → k < l → 1 ≤ second → sum ≡ partialProducts table k first second l → sum ≡ products table k first second
+whole table k first second l h past there e =
+    e ∙ ap (partialProducts table k first second) (omega (arith, h, past)) ∙ all-products table k first second there
+
+returns : tie.Need-returns Inv-loop μ-loop
+returns c =
+    let a = c .before .before in
+    whole (tableIn (a .args .k) (a .args .values .now) (a .args .reaches .now)) (a .args .k) (a .args .first) (a .args .second) (c .before .loop .l) (c .before .loop .inv .0) (c .loop-test .left) (a .pre .1 .1 .1 .0) (c .before .loop .inv .1)
 
 sub-a : tie.Need-sub-a Inv-loop μ-loop
 unfolding quantities
@@ -42,9 +60,6 @@ mul-b c = omega (arith, c .pre .1)
 add-b : tie.Need-add-b Inv-loop μ-loop
 unfolding quantities
 add-b c = omega (arith, c .pre .1)
-
-loop-holds : tie.Need-loop-holds Inv-loop μ-loop
-loop-holds c = (omega arith, no-products _ _ _ _)
 
 add-at : tie.Need-add-at Inv-loop μ-loop
 unfolding quantities
@@ -104,21 +119,6 @@ add-l c = omega (arith, c .before .before .before .before .before .before .befor
 
 loop-less : tie.Need-loop-less Inv-loop μ-loop
 loop-less c = omega (arith, c .before .before .before .before .before .loop-test .taken)
-
-loop-again : tie.Need-loop-again Inv-loop μ-loop
-unfolding scale
-loop-again c =
-    let a = c .before .before .before .before .before .before .before in
-    let turn = c .before .before .before .before .before .before .loop in
-    let test = c .before .before .before .before .before .loop-test in (
-      omega (arith, test .taken),
-      rw (add-one (turn .l)) (one-product-more (a .pre .0) (a .args .first) (a .args .second) (a .pre .1 .1 .0) (a .pre .1 .1 .1) (turn .l) (test .taken) (turn .inv .1) (c .with-product .ensures .0) (c .with-product .ensures .1)),
-    )
-
-returns : tie.Need-returns Inv-loop μ-loop
-returns c =
-    let a = c .before .before in
-    whole (tableIn (a .args .k) (a .args .values .now) (a .args .reaches .now)) (a .args .k) (a .args .first) (a .args .second) (c .before .loop .l) (c .before .loop .inv .0) (c .loop-test .left) (a .pre .1 .1 .1 .0) (c .before .loop .inv .1)
 
 pub convolution-spec : {M : Type 1} → statement M
 convolution-spec =

@@ -14,33 +14,30 @@ use Rattle.rounding.proofs.Machine.{sfits-abs}
 use Rattle.model.specs.Sheet.{scale, most}
 use Rattle.model.specs.Step.{reach}
 use Rattle.model.specs.declared.Ball.{Ball}
+use Rattle.model.proofs.WorkingNumbers.{reaches-fit}
 use Rattle.model.proofs.Reach.{near-close, up-close, scale-positive}
 use borrow.Author.Needs.{needs}
 use Rattle.coefficients.proofs.orders.with_product.Statement.{statement}
 use Rattle.coefficients.proofs.orders.with_product.Tie as tie
 
 module _ (a b : ℤ) {r t : ℕ} (covered : (natAbs a ≤ r) × (natAbs b ≤ t)) (small : (r ≤ most) × (t ≤ most)) where
-  reaches-fit : r * t ≤ 2 ^ 58
-  unfolding most
-  reaches-fit = omega (arith, mul-le-mul (small .0) (small .1))
-
   product-covered : natAbs (a *ℤ b) ≤ r * t
   product-covered = rw (abs-mul a b) (mul-le-mul (covered .0) (covered .1))
 
   rounded-small : natAbs (near (a *ℤ b) scale) ≤ 2 ^ 35
   unfolding scale
-  rounded-small = omega (arith, near-close (a *ℤ b) scale-positive, product-covered, reaches-fit)
+  rounded-small = omega (arith, near-close (a *ℤ b) scale-positive, product-covered, reaches-fit (small .0) (small .1))
 
   error-small : (m : ℕ) {u : ℕ} → u ≡ up (r * t - m) scale + 1 → u ≤ 2 ^ 35
   unfolding scale
-  error-small m e = omega (arith, e, up-close (r * t - m) scale-positive, reaches-fit)
+  error-small m e = omega (arith, e, up-close (r * t - m) scale-positive, reaches-fit (small .0) (small .1))
 
   module _ (a-fits : SFits w64 a) (b-fits : SFits w64 b) where
     signed-is : toZ w64 (ofZ w64 a) *ℤ toZ w64 (ofZ w64 b) ≡ a *ℤ b
     signed-is = rw (toZ-ofZ a-fits, toZ-ofZ b-fits)
 
     signed-fits : SFits w64 (toZ w64 (ofZ w64 a) *ℤ toZ w64 (ofZ w64 b))
-    signed-fits = rw signed-is (sfits-abs (omega (arith, product-covered, reaches-fit)))
+    signed-fits = rw signed-is (sfits-abs (omega (arith, product-covered, reaches-fit (small .0) (small .1))))
 
     signed-kept : toZ w64 (ofZ w64 (toZ w64 (ofZ w64 a) *ℤ toZ w64 (ofZ w64 b))) ≡ a *ℤ b
     signed-kept = toZ-ofZ signed-fits ∙ signed-is
@@ -69,7 +66,7 @@ magnitude-requires c κs = search needs
 -- what the two calls give, of the numbers themselves and not of their bits
 error-is : (c : tie.After-magnitude) →
     let s = c .before .before in
-    c .before .product .result - c .magnitude .result ≡ s .args .reach * s .args .other - natAbs (s .args .a *ℤ s .args .b)
+    c .before .product .result - c .magnitude .result ≡ s .args .m * s .args .n - natAbs (s .args .a *ℤ s .args .b)
 error-is c =
     let s = c .before .before in
     ap₂ _-_ (c .before .product .ensures) (c .magnitude .ensures ∙ ap natAbs (signed-kept (s .args .a) (s .args .b) (s .pre .0) (s .pre .1 .0) (s .fits .a) (s .fits .b)))
@@ -91,11 +88,11 @@ add-t11 c =
 up-and-one-requires : tie.Need-up-and-one-requires
 up-and-one-requires c κs =
     let s = c .before .before .before .before .before in
-    (omega arith, omega (arith, error-is (c .before .before .before), reaches-fit (s .args .a) (s .args .b) (s .pre .0) (s .pre .1 .0)))
+    (omega arith, omega (arith, error-is (c .before .before .before), reaches-fit (s .pre .1 .0 .0) (s .pre .1 .0 .1)))
 
 radius-is : (c : tie.After-up-and-one) →
     let s = c .before .before .before .before .before .before in
-    c .up-and-one .result ≡ up (s .args .reach * s .args .other - natAbs (s .args .a *ℤ s .args .b)) scale + 1
+    c .up-and-one .result ≡ up (s .args .m * s .args .n - natAbs (s .args .a *ℤ s .args .b)) scale + 1
 unfolding scale
 radius-is c =
     c .up-and-one .ensures ∙ ap (λ (n : ℕ). up n scale + 1) (error-is (c .before .before .before .before))

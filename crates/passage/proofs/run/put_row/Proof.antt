@@ -12,6 +12,11 @@ use Rattle.passage.proofs.run.put_row.Tie as tie
 cast-rows : tie.Need-cast-rows
 cast-rows c = search needs
 
+returns : tie.Need-returns
+returns c =
+    let a = c .before .before .before .before .before .before in
+    rw (c .before .put-radii .ensures, c .before .before .before .before .put-values .ensures, toZ-ofZ (cast-rows a)) (row-stored (a .args .rows .now) (a .args .at) (a .args .n) (a .args .degree) (a .args .values .now) (a .args .radii .now))
+
 mul-t8 : tie.Need-mul-t8
 mul-t8 c = search needs
 
@@ -38,11 +43,6 @@ unfolding width
 put-radii-requires c κs =
     let a = c .before .before .before .before in
     (a .pre .0, (rw (c .before .before .put-values .ensures, length-sets, length-set) (omega arith), a .pre .1 .1 .1))
-
-returns : tie.Need-returns
-returns c =
-    let a = c .before .before .before .before .before .before in
-    rw (c .before .put-radii .ensures, c .before .before .before .before .put-values .ensures, toZ-ofZ (cast-rows a)) (row-stored (a .args .rows .now) (a .args .at) (a .args .n) (a .args .degree) (a .args .values .now) (a .args .radii .now))
 
 same-length : tie.Need-same-length
 same-length c = rw (returns c, length-sets)

@@ -21,11 +21,32 @@ Inv-loop n steps step limit tol terms to coef first second rows₀ places balls�
 abbrev μ-loop : tie.MeasureT-loop
 μ-loop n steps step limit tol terms to coef first second rows₀ places balls₀ done₀ rows balls done = steps - done
 
-width-requires : tie.Need-width-requires Inv-loop μ-loop
-width-requires c κs = c .pre .1 .0 .0
-
 loop-holds : tie.Need-loop-holds Inv-loop μ-loop
 loop-holds c = underway-at-start _ _ _ _
+
+returns : tie.Need-returns Inv-loop μ-loop
+returns c =
+    let turn = c .before .before .before .before .before .before .before in
+    let a = turn .before .before .before in
+    let step = c .before .before .before .before .before .before .take-step in
+    let stops = step-stops (a .args .n) _ _ (step .result) _ (step .ensures) (c .before .advance .given .1) in
+    rw (toZ-ofZ (a .fits .step)) at (finished-by-refusal _ (turn .before .loop .inv) (a .pre .1 .1 .1) (turn .loop-test .taken) stops)
+
+loop-again : tie.Need-loop-again Inv-loop μ-loop
+loop-again c =
+    let turn = c .before .before .before .before .before .before .before .before .before .before .before .before in
+    let a = turn .before .before .before in
+    let step = c .before .before .before .before .before .before .before .before .before .before .before .take-step in
+    let moves = step-moves (a .args .n) _ _ (step .result) _ (step .ensures) (c .before .before .before .before .before .before .advance2 .given .1) in
+    rw (c .before .put-row .ensures, turn .before .before .width .ensures) (moved _ (turn .before .loop .inv) (turn .loop-test .taken) moves (length-balls (a .args .n) (step .result .balls)))
+
+returns-2 : tie.Need-returns-2 Inv-loop μ-loop
+returns-2 c =
+    let a = c .before .before .before in
+    rw (toZ-ofZ (a .fits .step)) at (finished (c .before .loop .inv) (a .pre .1 .1 .1) (c .loop-test .left))
+
+width-requires : tie.Need-width-requires Inv-loop μ-loop
+width-requires c κs = c .pre .1 .0 .0
 
 take-step-requires : tie.Need-take-step-requires Inv-loop μ-loop
 take-step-requires c κs =
@@ -40,14 +61,6 @@ add-number c = omega arith
 
 same-length : tie.Need-same-length Inv-loop μ-loop
 same-length c = underway-length (c .before .before .before .before .before .before .before .before .loop .inv)
-
-returns : tie.Need-returns Inv-loop μ-loop
-returns c =
-    let turn = c .before .before .before .before .before .before .before in
-    let a = turn .before .before .before in
-    let step = c .before .before .before .before .before .before .take-step in
-    let stops = step-stops (a .args .n) _ _ (step .result) _ (step .ensures) (c .before .advance .given .1) in
-    rw (toZ-ofZ (a .fits .step)) at (finished-by-refusal _ (turn .before .loop .inv) (a .pre .1 .1 .1) (turn .loop-test .taken) stops)
 
 enum-known-advance-2 : tie.Need-enum-known-advance-2 Inv-loop μ-loop
 enum-known-advance-2 c = search needs
@@ -73,21 +86,8 @@ add-done c = omega arith
 loop-less : tie.Need-loop-less Inv-loop μ-loop
 loop-less c = omega arith
 
-loop-again : tie.Need-loop-again Inv-loop μ-loop
-loop-again c =
-    let turn = c .before .before .before .before .before .before .before .before .before .before .before .before in
-    let a = turn .before .before .before in
-    let step = c .before .before .before .before .before .before .before .before .before .before .before .take-step in
-    let moves = step-moves (a .args .n) _ _ (step .result) _ (step .ensures) (c .before .before .before .before .before .before .advance2 .given .1) in
-    rw (c .before .put-row .ensures, turn .before .before .width .ensures) (moved _ (turn .before .loop .inv) (turn .loop-test .taken) moves (length-balls (a .args .n) (step .result .balls)))
-
 same-length-2 : tie.Need-same-length-2 Inv-loop μ-loop
 same-length-2 c = underway-length (c .before .loop .inv)
-
-returns-2 : tie.Need-returns-2 Inv-loop μ-loop
-returns-2 c =
-    let a = c .before .before .before in
-    rw (toZ-ofZ (a .fits .step)) at (finished (c .before .loop .inv) (a .pre .1 .1 .1) (c .loop-test .left))
 
 pub run-steps-spec : {M : Type 1} → statement M
 run-steps-spec =

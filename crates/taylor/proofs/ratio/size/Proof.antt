@@ -19,6 +19,12 @@ size-is : (terms : List Term) (G target : ℕ) {none one two without both : ℕ}
 unfolding rule.size scale
 size-is terms G target e₀ e₁ e₂ w b = rw (w, b, e₀, e₁, e₂)
 
+returns : tie.Need-returns
+returns c =
+    let s = c .before .before .before .before .before in
+    let a = s .args in
+    size-is (termsIn (a .terms) (a .to .now) (a .coef .now) (a .first .now) (a .second .now)) (a .greatest) (a .target) (c .before .before .before .before .coefs .ensures) (c .before .before .before .coefs2 .ensures) (c .before .before .coefs3 .ensures) (c .before .up .ensures) (c .up2 .ensures)
+
 coefs-requires : tie.Need-coefs-requires
 coefs-requires c κs = search needs
 
@@ -59,12 +65,6 @@ add-result-2 c =
     let s = c .before .before .before .before .before in
     let a = s .args in
     omega (arith, size-is (termsIn (a .terms) (a .to .now) (a .coef .now) (a .first .now) (a .second .now)) (a .greatest) (a .target) (c .before .before .before .before .coefs .ensures) (c .before .before .before .coefs2 .ensures) (c .before .before .coefs3 .ensures) (c .before .up .ensures) (c .up2 .ensures), size-fits (termsIn (a .terms) (a .to .now) (a .coef .now) (a .first .now) (a .second .now)) (total-bounded _ (s .pre .1 .0)) (s .pre .1 .1 .0) (s .pre .1 .1 .1) (a .target))
-
-returns : tie.Need-returns
-returns c =
-    let s = c .before .before .before .before .before in
-    let a = s .args in
-    size-is (termsIn (a .terms) (a .to .now) (a .coef .now) (a .first .now) (a .second .now)) (a .greatest) (a .target) (c .before .before .before .before .coefs .ensures) (c .before .before .before .coefs2 .ensures) (c .before .before .coefs3 .ensures) (c .before .up .ensures) (c .up2 .ensures)
 
 pub size-spec : {M : Type 1} → statement M
 size-spec =

@@ -43,9 +43,6 @@ module _ {z : ℤ} (fits : SFits w64 z) (above : ltZ (pos 0) (toZ w64 (ofZ w64 z
   opposite : (m : List ℕ) → spelled (toZ w64 (ofZ w64 (pos 0 -ℤ toZ w64 (ofZ w64 z)))) m ≡ negated (spelled z m)
   opposite m = rw (toZ-ofZ opposite-fits, toZ-ofZ fits) (sym (negated-positive z m (rw (toZ-ofZ fits) at above)))
 
-sub-t8 : tie.Need-sub-t8
-sub-t8 c = opposite-fits (z-fits (c .before)) (c .if1 .taken)
-
 returns-2 : tie.Need-returns-2
 unfolding spelledAt
 returns-2 c = rw (number-first (c .before .before)) (opposite (z-fits (c .before)) (c .if1 .taken) _)
@@ -55,6 +52,9 @@ unfolding spelledAt
 returns-3 c =
     rw (number-first (c .before .before))
     (sym (negated-other (c .before .before .z .given .0 .0) _ (rw (toZ-ofZ (z-fits (c .before))) at (c .if1 .left))))
+
+sub-t8 : tie.Need-sub-t8
+sub-t8 c = opposite-fits (z-fits (c .before)) (c .if1 .taken)
 
 natural-requires : tie.Need-natural-requires
 natural-requires c κs = search needs
