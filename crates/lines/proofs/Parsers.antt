@@ -12,7 +12,7 @@ use Rattle.model.specs.Reading.{Parsed, parsed, fault, Parser, return, _>>=_, l
 use Rattle.model.specs.declared.Refusal.{Refusal}
 use Rattle.model.specs.declared.Refusal.the-variants.{Misspelt}
 use Rattle.model.proofs.Verdicts.{in-range}
-use Rattle.model.proofs.Parsers.{Gives, gives, faulty, Yields, yields-field}
+use Rattle.model.proofs.Parsers.{Delivers, delivers, faulty, Yields, yields-field}
 use Rattle.lines.specs.Places.{rest, empty, spelling, lineAfter}
 use Rattle.lines.specs.Fields.{wholeRead, wholeAfter, naturalRead, naturalAfter}
 use Rattle.lines.specs.declared.fields.WholeLine.{WholeLine}
@@ -115,8 +115,8 @@ module _ {A : Type 0} (a : A) where
 yielded : {A : Type 0} {P : A → Type 0} {p : Parser A} → Yields P p → (l : List ℕ) {a : A} {m : List ℕ} → p l ≡ parsed a m → P a
 yielded {A} {P} {p} yields l {a} {m} e = go (p l) (yields .on l) e
   where
-    go : (q : Parsed A) → Gives P q → q ≡ parsed a m → P a
-    go (parsed b next) (gives h) e = let same : b ≡ a = cc in subst P same h
+    go : (q : Parsed A) → Delivers P q → q ≡ parsed a m → P a
+    go (parsed b next) (delivers h) e = let same : b ≡ a = cc in subst P same h
     go (fault r) (faulty _ h) e = absurd (let z : _≡_ {A = ℕ} 0 1 = cc in omega arith)
 
 pub field-at-most : (key : String) (low high : ℕ) (l : List ℕ) {v : ℕ} {m : List ℕ} → field key (from low to high) l ≡ parsed v m → v ≤ high

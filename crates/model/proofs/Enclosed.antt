@@ -20,7 +20,7 @@ use Rattle.model.specs.Step.{Ball, no-ball, reach, greatest, size, ratio
 use Rattle.model.specs.Passage.{slow, most-ratio}
 use Rattle.model.specs.Trust.{LiesWithin}
 use Rattle.model.specs.declared.Term.{Term}
-use Rattle.model.proofs.Bounds.{scale-le-greatest, reach-le-greatest}
+use Rattle.model.proofs.Invariant.{scale-le-greatest, reach-le-greatest}
 use Rattle.model.proofs.Coefficients.{sums-enclosed}
 use Rattle.model.proofs.Majorant.{WellFormed, summand-under}
 use Rattle.model.proofs.Ranges.{length-tabulate, getD-tabulate, largest-le}

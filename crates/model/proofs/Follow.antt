@@ -9,7 +9,7 @@ use lib.IntN.{ℤ}
 use lib.ListN.{length, length-append}
 use lib.Seq.{sets, length-sets}
 use Rattle.model.specs.Step.{Ball, Row}
-use Rattle.model.specs.Passage.{Advance, moves, stops, advance, Run, refused, goOn, follow, width, rowPlaces, places, written}
+use Rattle.model.specs.Passage.{Advance, moves, stops, advance, Run, refused, goOn, follow, width, rowPlaces, places, Finished}
 use Rattle.model.specs.declared.Term.{Term}
 use Rattle.model.specs.declared.Refusal.{Refusal}
 use Rattle.model.specs.declared.Outcome.{Outcome}
@@ -34,11 +34,6 @@ module _ (terms : List Term) (H : ℤ) (limit tol : ℕ) where
     pub wide : Wide n rows
     pub ahead : follow terms H limit tol steps 1 start ≡ after rows (follow terms H limit tol (steps - done) (suc done) balls)
     pub stored : held ≡ sets buffer 0 (places rows)
-
-  -- the passage from `start` has come to this outcome, and the buffer holds its rows
-  pub record Finished (steps : ℕ) (start : List Ball) (buffer : List ℤ) (outcome : Outcome) (held : List ℤ) : Type 0 where
-    pub answer : outcome ≡ follow terms H limit tol steps 1 start .outcome
-    pub stored : held ≡ written (follow terms H limit tol steps 1 start .rows) buffer
 
   one-step : (left step : ℕ) (balls : List Ball) (next : Advance) → advance terms H limit tol balls ≡ next → follow terms H limit tol (suc left) step balls ≡ goOn next step (λ row. follow terms H limit tol left (suc step) (row .balls))
   unfolding follow

@@ -18,7 +18,7 @@ use Rattle.model.specs.Passage.{moves, question, small, slow, most-ratio
 use Rattle.model.specs.declared.Sheet.{Sheet}
 use Rattle.model.specs.declared.Outcome.the-variants.{Accepted}
 use Rattle.model.proofs.Reach.{scale-positive}
-use Rattle.model.proofs.Bounds.{scale-le-greatest}
+use Rattle.model.proofs.Invariant.{scale-le-greatest}
 use Rattle.model.proofs.Ranges.{tabulate-is}
 
 up-zero : {d : ℕ} → 0 < d → up 0 d ≡ 0

@@ -24,23 +24,23 @@ use Rattle.model.specs.declared.Refusal.the-variants.{Misspelt, OutOfRan
 use Rattle.model.proofs.Verdicts.{refusal-not-passes}
 
 -- a result has the property, or the fault is one of the first four refusals
-pub data Gives {A : Type 0} (P : A → Type 0) : Parsed A → Type 0 where
-  gives : {a : A} {rest : List ℕ} → P a → Gives P (parsed a rest)
-  faulty : (r : Refusal) → number r ≤ 4 → Gives P (fault r)
+pub data Delivers {A : Type 0} (P : A → Type 0) : Parsed A → Type 0 where
+  delivers : {a : A} {rest : List ℕ} → P a → Delivers P (parsed a rest)
+  faulty : (r : Refusal) → number r ≤ 4 → Delivers P (fault r)
 
 pub record Yields {A : Type 0} (P : A → Type 0) (p : Parser A) : Type 0 where
-  pub on : (text : List ℕ) → Gives P (p text)
+  pub on : (text : List ℕ) → Delivers P (p text)
 
 pub yields-return : {A : Type 0} {P : A → Type 0} (a : A) → P a → Yields P (return a)
 unfolding return
-yields-return a h = record { on = λ text. gives h }
+yields-return a h = record { on = λ text. delivers h }
 
 pub yields-then : {A B : Type 0} {P : A → Type 0} {Q : B → Type 0} {p : Parser A} {f : A → Parser B} → Yields P p → ((a : A) → P a → Yields Q (f a)) → Yields Q (p >>= f)
 unfolding _>>=_
 yields-then {A} {B} {P} {Q} {p} {f} h k = record { on = λ text. go (p text) (h .on text) }
   where
-    go : (x : Parsed A) → Gives P x → Gives Q (elim x [ parsed a rest ↦ f a rest | fault r ↦ fault r ])
-    go (parsed a rest) (gives h) = k a h .on rest
+    go : (x : Parsed A) → Delivers P x → Delivers Q (elim x [ parsed a rest ↦ f a rest | fault r ↦ fault r ])
+    go (parsed a rest) (delivers h) = k a h .on rest
     go (fault r) (faulty _ h) = faulty r h
 
 -- so many with the property
@@ -69,8 +69,8 @@ pub yields-end : {A : Type 0} {P : A → Type 0} (a : A) → P a → Yields P (e
 unfolding end number
 yields-end {P = P} a h = record { on = go }
   where
-    go : (text : List ℕ) → Gives P (end a text)
-    go [] = gives h
+    go : (text : List ℕ) → Delivers P (end a text)
+    go [] = delivers h
     go (b ∷ text) = faulty Misspelt (omega arith)
 
 -- ---- the fields
@@ -79,20 +79,20 @@ pub yields-line : (key : String) (spelling : List ℕ → Spelled) (limits : Lim
 unfolding line faults ended number inRange ask
 yields-line key spelling limits = record { on = λ text. found (after (bytes key ++ bytes "=") text) }
   where
-    tested : (z : ℤ) (rest : List ℕ) (b : Bool) → within limits z ≡ b → Gives (λ z. inRange limits z ≡ passes) (faults (elim b [ true ↦ holds z rest | false ↦ outside ]))
-    tested z rest true h = gives {a = z} (rw h)
+    tested : (z : ℤ) (rest : List ℕ) (b : Bool) → within limits z ≡ b → Delivers (λ z. inRange limits z ≡ passes) (faults (elim b [ true ↦ holds z rest | false ↦ outside ]))
+    tested z rest true h = delivers {a = z} (rw h)
     tested z rest false h = faulty OutOfRange (omega arith)
 
-    fed : (z : ℤ) (rest : List ℕ) (b : Bool) → Gives (λ z. inRange limits z ≡ passes) (faults (elim b [ true ↦ elim (within limits z) [ true ↦ holds z rest | false ↦ outside ] | false ↦ misspelt ]))
+    fed : (z : ℤ) (rest : List ℕ) (b : Bool) → Delivers (λ z. inRange limits z ≡ passes) (faults (elim b [ true ↦ elim (within limits z) [ true ↦ holds z rest | false ↦ outside ] | false ↦ misspelt ]))
     fed z rest true = tested z rest (within limits z) refl
     fed z rest false = faulty Misspelt (omega arith)
 
-    read : (x : Spelled) → Gives (λ z. inRange limits z ≡ passes) (faults (ended limits x))
+    read : (x : Spelled) → Delivers (λ z. inRange limits z ≡ passes) (faults (ended limits x))
     read (spelled z []) = faulty Misspelt (omega arith)
     read (spelled z (b ∷ rest)) = fed z rest (eqb b (code "\n"))
     read wrong = faulty Misspelt (omega arith)
 
-    found : (x : Option (List ℕ)) → Gives (λ z. inRange limits z ≡ passes) (faults (elim x [ some rest ↦ ended limits (spelling rest) | none ↦ misspelt ]))
+    found : (x : Option (List ℕ)) → Delivers (λ z. inRange limits z ≡ passes) (faults (elim x [ some rest ↦ ended limits (spelling rest) | none ↦ misspelt ]))
     found (some rest) = read (spelling rest)
     found none = faulty Misspelt (omega arith)
 

@@ -12,6 +12,7 @@ use Rattle.rounding.proofs.Roundings.{up-is-least}
 use Rattle.model.specs.Range.{sum, largest}
 use Rattle.model.specs.Sheet.{scale, most, no-term}
 use Rattle.model.specs.Step.{brings, coefOf, factors, coefs, size, ratio}
+use Rattle.model.specs.Bounds.{total, most-total}
 use Rattle.model.specs.declared.Term.{Term}
 use Rattle.model.proofs.Ranges.{sum-le, largest-bounded, sum-partial}
 use Rattle.model.proofs.Reach.{scale-positive}
@@ -26,11 +27,12 @@ brought-coef-le target count term =
     le-trans (cond-le (eqb (term .to) target) (coefOf count term)) (cond-le (eqb (factors term) count) (natAbs (term .coef)))
 
 -- All that is asked of the terms is the sum of |A| over all of them.
-module _ (terms : List Term) (total : sum (length terms) (λ j. natAbs (getD terms j no-term .coef)) ≤ 32 * 268435456) where
+module _ (terms : List Term) (in-total : total terms ≤ most-total) where
   -- Z0, Z1 and Z2, as far as they are summed up
   pub coefs-fit : (target count m : ℕ) → m ≤ length terms → sum m (λ j. brings target (getD terms j no-term) (coefOf count (getD terms j no-term))) ≤ 2 ^ 33
+  unfolding total most-total
   coefs-fit target count m h =
-      le-trans (sum-le m _ _ (λ j l. brought-coef-le target count (getD terms j no-term))) (le-trans (sum-partial (λ j. natAbs (getD terms j no-term .coef)) (length terms) h) total)
+      le-trans (sum-le m _ _ (λ j l. brought-coef-le target count (getD terms j no-term))) (le-trans (sum-partial (λ j. natAbs (getD terms j no-term .coef)) (length terms) h) in-total)
 
   pub coefs-le : (target count : ℕ) → coefs terms target count ≤ 2 ^ 33
   unfolding coefs

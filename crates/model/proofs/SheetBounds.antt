@@ -21,7 +21,7 @@ use Rattle.model.specs.declared.Refusal.the-variants.{OutOfRange}
 use Rattle.model.specs.declared.Sheet.{Sheet}
 use Rattle.model.specs.declared.Term.{Term}
 use Rattle.model.proofs.Ranges.{sum-le, sum-constant}
-use Rattle.model.proofs.Bounds.{TermsInBounds, InBounds}
+use Rattle.model.specs.Bounds.{total, most-total, TermsInBounds, InBounds}
 use Rattle.model.proofs.Verdicts.{answered-yes, both-true, every-holds, in-range, TermInRange, SheetInRange, sheet-in-range}
 
 -- ---- magnitudes by range
@@ -74,9 +74,9 @@ module _ (sheet : Sheet) (ranges : SheetInRange sheet) where
       go (yes h) = second-absent (sheet .n) _ _ (term-of-sheet j h .second)
       go (no past) = rw (List·getD-eq-default (termsOf sheet) no-term {n = j} (omega (arith, past))) (λ absent. refl)
 
-  total : sum (length (termsOf sheet)) (λ j. natAbs (getD (termsOf sheet) j no-term .coef)) ≤ 32 * 268435456
-  unfolding coef-limits
-  total =
+  in-total : total (termsOf sheet) ≤ most-total
+  unfolding coef-limits total most-total
+  in-total =
       le-trans (sum-le (length (termsOf sheet)) _ (λ j. 268435456) (λ j h. signed-magnitude 268435456 _ (term-of-sheet j h .coefficient))) (rw (sum-constant (length (termsOf sheet)) 268435456) (mul-le-mul-right 268435456 terms-at-most))
 
   terms-in-bounds : TermsInBounds (termsOf sheet) (sheet .step) (sheet .n)
@@ -84,7 +84,7 @@ module _ (sheet : Sheet) (ranges : SheetInRange sheet) where
   terms-in-bounds =
       record {
         count = terms-at-most;
-        total = total;
+        total = in-total;
         formed = formed;
         step = positive-magnitude 1 (sheet .step) (ranges .step);
         to-low = λ j h. in-range _ (term-of-sheet j h .target) .0;

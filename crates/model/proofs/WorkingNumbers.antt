@@ -13,11 +13,12 @@ use Rattle.model.specs.Range.{sum, sumℤ}
 use Rattle.model.specs.Sheet.{scale, most, no-term}
 use Rattle.model.specs.Exact.{bringsℤ}
 use Rattle.model.specs.Step.{Ball, reach, greatest, brings, Coefficients, coefficient, factor, productRadius, products, times, share, coefficientsTo, newBall}
+use Rattle.model.specs.Bounds.{total, most-total, InBounds}
 use Rattle.model.specs.declared.Term.{Term}
 use Rattle.model.proofs.Reach.{reach-product, reach-times, reach-sums-bounded}
 use Rattle.model.proofs.Weights.{weighs, weightOf}
 use Rattle.model.proofs.Shares.{FactorsReach, partialProducts, products-bounded, carried-weighed}
-use Rattle.model.proofs.Bounds.{InBounds, weight-halved, scale-le-greatest, greatest-le-most, brought-bounded, coefficient-bounded, coefficient-halved}
+use Rattle.model.proofs.Invariant.{weight-halved, scale-le-greatest, greatest-le-most, brought-bounded, coefficient-bounded, coefficient-halved}
 use Rattle.model.proofs.Ranges.{summand-le}
 
 pub value-le-reach : (ball : Ball) → natAbs (ball .value) ≤ reach ball
@@ -88,7 +89,7 @@ module _ {terms : List Term} {H : ℤ} {balls : List Ball} (bounds : InBounds te
 
   -- |A×Q| and |A|×f, by the ratio and not by the range of A
   pub term-product-fits : (j : ℕ) → j < length terms → natAbs (getD terms j no-term .coef) * reach (times H (products table k (getD terms j no-term .first) (getD terms j no-term .second))) < 2 ^ 57
-  unfolding scale most
+  unfolding scale most total most-total
   term-product-fits j h =
       combine (natAbs (getD terms j no-term .coef)) _ _ (greatest balls) (carried-weighed table k reaches H (scale-le-greatest balls) (getD terms j no-term) (bounds .sheet .formed j)) (term-halved j h) (scale-le-greatest balls) (greatest-le-most bounds) (le-trans (summand-le (λ l. natAbs (getD terms l no-term .coef)) (length terms) h) (bounds .sheet .total))
     where

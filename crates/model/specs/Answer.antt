@@ -10,7 +10,7 @@ use Rattle.model.specs.Range.{bytes}
 use Rattle.model.specs.Sheet.{result, refusedStep}
 use Rattle.model.specs.Reading.{readSheet}
 use Rattle.model.specs.Step.{Ball, Row}
-use Rattle.model.specs.Passage.{Run, run}
+use Rattle.model.specs.Passage.{Run, refused, run}
 use Rattle.model.specs.declared.Outcome.{Outcome}
 use Rattle.model.specs.declared.Outcome.the-variants.{Accepted, Refused}
 
@@ -47,8 +47,12 @@ outcomeText outcome = printed "result" (pos (result outcome)) ++ printed "at" (p
 unfoldable pub runText : Run → List ℕ
 runText run = rowsText 1 (run .rows) ++ outcomeText (run .outcome)
 
+-- what comes of a sheet's bytes: its passage, or its refusal and no row
+unfoldable pub runOf : List ℕ → Run
+runOf text =
+    let read = readSheet text in
+    elim (read .outcome) [ Accepted ↦ run (read .sheet) | Refused r step ↦ refused r step ]
+
 -- what the planner prints for a sheet
 unfoldable pub answer : List ℕ → List ℕ
-answer text =
-    let read = readSheet text in
-    elim (read .outcome) [ Accepted ↦ runText (run (read .sheet)) | Refused r step ↦ outcomeText (Refused r step) ]
+answer text = runText (runOf text)

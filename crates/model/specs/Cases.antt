@@ -1,47 +1,62 @@
--- Document 01's soundings A to J, as one table. proofs/Cases.antt has the one theorem, that every case holds.
+-- Document 01's soundings A to J, and the order of question 3, as one table. proofs/Cases.antt has the one theorem, that all of them hold.
 use Prim.Native.Nat.{ℕ}
 use Prim.Native.String.{String, _++_ as _&_}
-use mathlib.Core.List.{List, [], _∷_}
+use mathlib.Core.List.{List, [], _∷_, map}
 use mathlib.Core.Path.{_≡_}
 use lib.IntN.{ℤ, pos, negsuc}
-use lib.ListN.{getD}
+use lib.ListN.{length, take}
 use Rattle.rounding.specs.Rounding.{near, up}
 use Rattle.model.specs.Range.{bytes}
-use Rattle.model.specs.Sheet.{result, refusedStep}
+use Rattle.model.specs.Sheet.{Gives, padded, no-quantity, no-term}
 use Rattle.model.specs.Reading.{readSheet}
-use Rattle.model.specs.Passage.{Run, run, passage}
-use Rattle.model.specs.Trust.{no-row}
-use Rattle.model.specs.Answer.{answer}
+use Rattle.model.specs.Step.{Row}
+use Rattle.model.specs.Passage.{passage}
+use Rattle.model.specs.Answer.{runOf, answer}
+use Rattle.model.specs.declared.Outcome.the-variants.{Accepted}
+use Rattle.model.specs.declared.Start.the-variants.{Reading, Missing}
+use Rattle.model.specs.declared.Quantity.{Quantity}
+use Rattle.model.specs.declared.Sheet.{Sheet}
 
--- what is worked out of a sheet's text
-unfoldable pub runOf : String → Run
-runOf text = run (readSheet (bytes text) .sheet)
+-- a sheet's text was read as a sheet
+unfoldable pub WasRead : String → Type 0
+WasRead sheet = readSheet (bytes sheet) .outcome ≡ Accepted
+
+-- the first of its rows, alone, or none
+unfoldable pub firstRow : String → List Row
+firstRow sheet = take 1 (runOf (bytes sheet) .rows)
 
 pub data Case : Type 0 where
   -- a sheet prints an answer
   prints : String → String → Case
-  -- its first row has a degree, and a value and a radius of its first quantity
+  -- a sheet is read, and its first row has a degree, and a value and a radius of its one quantity
   opens : String → ℕ → ℤ → ℕ → Case
-  -- its first row has a degree
+  -- a sheet is read, and its first row has a degree
   opensAt : String → ℕ → Case
-  -- its passage ends with a result, at a step
+  -- a sheet is read, and its passage ends with a result, at a step
   ends : String → ℕ → ℕ → Case
-  -- with so many places its passage ends with a result
+  -- a sheet is read, and with so many places its passage ends with a result
   lent : String → ℕ → ℕ → Case
+  -- a sheet given as numbers is refused before its places are counted, and before step 1
+  judged : Sheet → ℕ → Case
   nearIs : ℤ → ℕ → ℤ → Case
   upIs : ℕ → ℕ → ℕ → Case
 
 unfoldable pub Holds : Case → Type 0
 Holds (prints sheet text) = answer (bytes sheet) ≡ bytes text
 Holds (opens sheet degree value radius) =
-    getD (runOf sheet .rows) 0 no-row ≡ record { degree = degree; balls = record { value = value; radius = radius } ∷ [] }
-Holds (opensAt sheet degree) = getD (runOf sheet .rows) 0 no-row .degree ≡ degree
-Holds (ends sheet number step) = (result (runOf sheet .outcome) ≡ number) × (refusedStep (runOf sheet .outcome) ≡ step)
-Holds (lent sheet places number) = result (passage (readSheet (bytes sheet) .sheet) places .outcome) ≡ number
+    WasRead sheet × (firstRow sheet ≡ record { degree = degree; balls = record { value = value; radius = radius } ∷ [] } ∷ [])
+Holds (opensAt sheet degree) = WasRead sheet × (map (λ row. row .degree) (firstRow sheet) ≡ degree ∷ [])
+Holds (ends sheet number step) = WasRead sheet × Gives (runOf (bytes sheet) .outcome) number step
+Holds (lent sheet places number) = WasRead sheet × Gives (passage (readSheet (bytes sheet) .sheet) places .outcome) number 0
+Holds (judged sheet number) = Gives (passage sheet 0 .outcome) number 0
 Holds (nearIs n d z) = near n d ≡ z
 Holds (upIs n d u) = up n d ≡ u
 
--- one quantity and at most one step's worth of lines: n, steps, step, tail, tol, start, radius, and then the terms
+unfoldable pub AllHold : List Case → Type 0
+AllHold [] = Unit {0}
+AllHold (case ∷ rest) = Holds case × AllHold rest
+
+-- one quantity: n, steps, step, tail, tol, start, radius, and then the terms
 unfoldable pub sheetText : String → String → String → String → String → String → String → String
 sheetText steps step tail tol start radius terms =
     "n=1\nsteps=" & steps & "\nstep=" & step & "\ntail=" & tail & "\ntol=" & tol & "\nstart=" & start & "\nradius=" & radius & "\nterms=" & terms
@@ -51,6 +66,27 @@ none = "0\n"
 
 unfoldable pub one : String → String → String
 one first second = "1\nto=1\ncoef=16777216\nfirst=" & first & "\nsecond=" & second & "\n"
+
+-- a reading with a radius, and no reading
+unfoldable pub reading : ℕ → ℕ → Quantity
+reading start radius = record { start = Reading (pos start); radius = radius }
+
+unfoldable pub missing : ℕ → Quantity
+missing radius = record { start = Missing; radius = radius }
+
+-- a sheet given as numbers: its tolerance, its quantities, how many terms
+unfoldable pub given : ℕ → List Quantity → ℕ → Sheet
+given tol quantities terms =
+    record {
+      n = length quantities;
+      steps = 1;
+      step = pos 1;
+      tail = 2;
+      tol = tol;
+      quantity = padded 8 no-quantity quantities;
+      terms = terms;
+      term = padded 32 no-term [];
+    }
 
 unfoldable pub square : String
 square = one "1" "1"
@@ -70,6 +106,7 @@ cases =
     ∷ opens (sheetText "1" "8388608" "2" "49" "0" "0" (one "0" "0")) 23 (pos 8388608) 49
     -- F
     ∷ prints (sheetText "1" "4194304" "349526" "7" "-5" "7" none) "row=1\ndegree=0\nvalue=-5\nradius=7\nresult=0\nat=0\n"
+    ∷ prints (sheetText "2" "4194304" "349526" "7" "-5" "7" none) "row=1\ndegree=0\nvalue=-5\nradius=7\nrow=2\ndegree=0\nvalue=-5\nradius=7\nresult=0\nat=0\n"
     -- G
     ∷ ends (sheetText "1" "4194304" "349526" "1" "536870912" "0" none) 0 0
     ∷ ends (sheetText "1" "4194304" "349526" "1" "536870912" "1" none) 6 1
@@ -85,4 +122,13 @@ cases =
     -- J
     ∷ lent (sheetText "2" "4194304" "349526" "349534" "0" "0" none) 6 0
     ∷ lent (sheetText "2" "4194304" "349526" "349534" "0" "0" none) 5 5
+    -- question 3: 3 and 4 in the order of the fields, and 5 after them
+    ∷ judged (given 0 (missing 0 ∷ []) 0) 3
+    ∷ judged (given 1 (missing 536870913 ∷ []) 0) 4
+    ∷ judged (given 1 (reading 0 536870913 ∷ missing 0 ∷ []) 0) 3
+    ∷ judged (given 1 (missing 0 ∷ reading 536870913 0 ∷ []) 0) 4
+    ∷ judged (given 1 (missing 0 ∷ []) 33) 4
+    ∷ judged (given 1 (missing 0 ∷ []) 1) 4
+    ∷ judged (given 1 (reading 0 0 ∷ []) 1) 3
+    ∷ judged (given 1 (reading 0 0 ∷ []) 0) 5
     ∷ []

@@ -28,6 +28,7 @@ pub record State : Type 0 where
 abbrev pub Orders : Type 0
 Orders = List (List ℤ)
 
+-- Y_k of quantity i; none is asked for past the table
 unfoldable pub order : Orders → ℕ → ℕ → ℤ
 order orders k i = getD (getD orders k []) i (pos 0)
 

@@ -4,6 +4,7 @@ pub mod Reading
 pub mod Exact
 pub mod Step
 pub mod Passage
+pub mod Bounds
 pub mod Trust
 pub mod Answer
 pub mod Cases

@@ -2,11 +2,12 @@
 use Prim.Native.Nat.{ℕ, zero, suc, _+_, _-_, _*_}
 use mathlib.Core.Bool.{Bool, true, false}
 use mathlib.Core.List.{List, [], _∷_, _++_, map}
+use mathlib.Core.Path.{_≡_}
 use lib.Dec.{leb}
 use lib.IntN.{ℤ, pos, natAbs}
 use lib.ListN.{length, getD, take, drop}
 use Rattle.model.specs.Range.{every, tabulate}
-use Rattle.model.specs.Sheet.{most, sheetVerdict, passes, refuses, no-quantity}
+use Rattle.model.specs.Sheet.{number, most, sheetVerdict, passes, refuses, no-quantity}
 use Rattle.model.specs.Step.{Ball, no-ball, reach, greatest, ratio, Row, stepRow}
 use Rattle.model.specs.declared.Start.{Start}
 use Rattle.model.specs.declared.Start.the-variants.{Reading, Missing}
@@ -24,6 +25,11 @@ use Rattle.model.specs.declared.Outcome.the-variants.{Accepted, Refused}
 pub data Advance : Type 0 where
   moves : Row → Advance
   stops : Refusal → Advance
+
+-- its number in document 01: 0 where there is a row
+unfoldable pub advanceNumber : Advance → ℕ
+advanceNumber (moves row) = 0
+advanceNumber (stops r) = number r
 
 unfoldable pub question : Bool → Refusal → Advance → Advance
 question true r next = next
@@ -78,7 +84,7 @@ module _ (terms : List Term) (H : ℤ) (limit tol : ℕ) where
 unfoldable pub termsOf : Sheet → List Term
 termsOf sheet = take (sheet .terms) (sheet .term)
 
--- a start is a number here: refusal 4 comes before any step
+-- a start is a number here: refusal 4 comes before any step, so that the second case does not occur
 unfoldable pub startValue : Start → ℤ
 startValue (Reading z) = z
 startValue Missing = pos 0
@@ -107,7 +113,7 @@ passage sheet places =
       | passes ↦ elim (leb (placesNeeded sheet) places) [ true ↦ run sheet | false ↦ refused TooFewPlaces 0 ]
     ]
 
--- how many rows are written: all in an accepted passage, the earlier ones where a step is refused, none before step 1
+-- how many rows are written: all in an accepted passage, the earlier ones where a step is refused, none before step 1 (0 - 1 is 0)
 unfoldable pub rowsWritten : Sheet → Outcome → ℕ
 rowsWritten sheet Accepted = sheet .steps
 rowsWritten sheet (Refused r step) = step - 1
@@ -125,7 +131,13 @@ places (row ∷ rows) = rowPlaces row ++ places rows
 unfoldable pub written : List Row → List ℤ → List ℤ
 written rows buffer = places rows ++ drop (length (places rows)) buffer
 
--- row j of a buffer of rows of n quantities, as it stands there
+-- so many steps from `start` have come to an outcome, and of a buffer lent, which was `before` them, their rows have made `after`
+pub record Finished (terms : List Term) (H : ℤ) (limit tol steps : ℕ) (start : List Ball) (before : List ℤ) (outcome : Outcome) (after : List ℤ) : Type 0 where
+  pub answer : outcome ≡ follow terms H limit tol steps 1 start .outcome
+  pub stored : after ≡ written (follow terms H limit tol steps 1 start .rows) before
+
+-- row j of a buffer of rows of n quantities, as it stands there. A buffer's numbers are signed, and those of a degree and of a radius that were
+-- written are not negative, so that their magnitudes are the numbers themselves.
 unfoldable pub rowIn : ℕ → List ℤ → ℕ → Row
 rowIn n buffer j =
     record {

@@ -44,7 +44,7 @@ natural [] = wrong
 natural (b ∷ rest) =
     elim (isDigit b) [ true ↦ elim (eqb b (code "0")) [ true ↦ spelled (pos 0) rest | false ↦ digits 8 (b - code "0") rest ] | false ↦ wrong ]
 
--- never a minus before 0
+-- never a minus before 0; `natural` spells no negative number, so that the third case does not occur
 unfoldable pub negated : Spelled → Spelled
 negated (spelled (pos zero) rest) = wrong
 negated (spelled (pos (suc n)) rest) = spelled (negsuc n) rest
@@ -110,7 +110,7 @@ faults (holds z rest) = parsed z rest
 faults misspelt = fault Misspelt
 faults outside = fault OutOfRange
 
--- a field without a minus, and one that may have it
+-- a field without a minus, whose number is never negative, and one that may have it
 unfoldable pub field : String → Limits → Parser ℕ
 field key limits = do
   z ← (λ text. faults (line key natural limits text))

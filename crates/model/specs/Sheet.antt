@@ -42,10 +42,20 @@ unfoldable pub refusedStep : Outcome → ℕ
 refusedStep Accepted = 0
 refusedStep (Refused r step) = step
 
+-- an outcome gives this number and this step
+pub record Gives (outcome : Outcome) (number step : ℕ) : Type 0 where
+  pub result-is : result outcome ≡ number
+  pub step-is : refusedStep outcome ≡ step
+
 -- What questions in order come to: none is answered no, or the first that is refuses.
 pub data Verdict : Type 0 where
   passes : Verdict
   refuses : Refusal → Verdict
+
+-- its number in document 01: 0 where all pass
+unfoldable pub verdictNumber : Verdict → ℕ
+verdictNumber passes = 0
+verdictNumber (refuses r) = number r
 
 -- a question, and what it refuses with where the answer is no
 unfoldable pub ask : Bool → Refusal → Verdict
@@ -142,7 +152,7 @@ termVerdict n term =
     inRange (first-limits n) (pos (term .first)) then
     inRange (second-limits n (term .first)) (pos (term .second))
 
--- what a list reads as past its end
+-- what a list reads as past its end, where no sheet has its counts
 unfoldable pub no-quantity : Quantity
 no-quantity = record { start = Reading (pos 0); radius = 0 }
 

@@ -54,10 +54,11 @@ unfoldable pub majorant : ℕ → ℕ → ℕ → ℕ
 majorant G q zero = G
 majorant G q (suc j) = up (majorant G q j * q) scale
 
+-- the tail at k; q is at most half of s by question 5, so that s - q is not 0
 unfoldable pub tailAt : ℕ → ℕ → ℕ → ℕ
 tailAt G q k = up (majorant G q (suc k) * scale) (scale - q)
 
--- the least k from 0 up whose tail is at most the sheet's; it never passes 28
+-- the least k from 0 up whose tail is at most the sheet's; it never passes 28, so that a k is always found
 unfoldable pub degree : ℕ → ℕ → ℕ → ℕ
 degree G q limit = least 28 (λ k. leb (tailAt G q k) limit)
 

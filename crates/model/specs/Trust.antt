@@ -20,11 +20,12 @@ pub record LiesWithin (balls : List Ball) (state : State) : Type 0 where
 pub record Tolerated (tol : ℕ) (balls : List Ball) : Type 0 where
   pub within : (i : ℕ) → i < length balls → getD balls i no-ball .radius ≤ tol
 
--- exact state j: from state j - 1, the exact sum of degree K_j at the passage's step
+-- exact state j: from state j - 1, the exact sum of degree K_j at the passage's step (K_1 is the first of the list; none is asked for past it)
 unfoldable pub stateAfter : List Term → ℤ → List ℕ → State → ℕ → State
 stateAfter terms H degrees state zero = state
 stateAfter terms H degrees state (suc j) = exactSum terms H scale (getD degrees j 0) (stateAfter terms H degrees state j)
 
+-- what a list of rows reads as past its end, where no row is asked for
 unfoldable pub no-row : Row
 no-row = record { degree = 0; balls = [] }
 

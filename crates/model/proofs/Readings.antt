@@ -1,12 +1,13 @@
 -- What reading gives: an accepted sheet is in range in every field and holds 0 past its counts; a refused one is the sheet of zeros, with
 -- one of the first four refusals and no step. Assumes nothing.
 use Prim.Native.Nat.{ℕ, zero, suc, _-_, _≤_, _<_}
-use mathlib.Core.Path.{_≡_, refl, sym, ap}
+use mathlib.Core.Path.{_≡_, refl, sym, ap, _∙_}
 use mathlib.Core.Bool.{Bool, true, false}
 use mathlib.Core.List.{List, [], _∷_, _++_}
+use mathlib.Core.Logic.{⊎-elim}
 use mathlib.Core.Option.{Option, some, none}
 use native.Mathlib.Omega.{arith}
-use lib.Seq.{take-at}
+use lib.Seq.{take-all, take-at, length-take-le}
 use lib.Signed.{leZ}
 use lib.IntN.{ℤ, pos}
 use lib.Dec.{leb}
@@ -22,8 +23,8 @@ use Rattle.model.specs.declared.Start.the-variants.{Reading, Missing}
 use Rattle.model.specs.declared.Sheet.{Sheet}
 use Rattle.model.specs.declared.Outcome.the-variants.{Accepted, Refused}
 use Rattle.model.proofs.Verdicts.{refusal-not-passes, in-range, sheet-in-range, both-pass}
-use Rattle.model.proofs.Ranges.{below}
-use Rattle.model.proofs.Parsers.{Gives, gives, faulty, Yields, Each, yields-return, yields-then, yields-times, yields-end, yields-field, yields-signed}
+use Rattle.model.proofs.Ranges.{below, before-or-past}
+use Rattle.model.proofs.Parsers.{Delivers, delivers, faulty, Yields, Each, yields-return, yields-then, yields-times, yields-end, yields-field, yields-signed}
 
 -- ---- the parts of a sheet
 
@@ -44,7 +45,7 @@ yields-start = record { on = λ text. go text (after (bytes "start=none\n") text
     reading : Yields (λ x. startVerdict x ≡ passes) (signedField "start" start-limits >>= λ z. return (Reading z))
     reading = yields-then (yields-signed "start" start-limits) (λ z w. yields-return (Reading z) w)
 
-    go : (text : List ℕ) (x : Option (List ℕ)) → Gives (λ x. startVerdict x ≡ passes) (elim x [ some rest ↦ fault NoReading | none ↦ (signedField "start" start-limits >>= λ z. return (Reading z)) text ])
+    go : (text : List ℕ) (x : Option (List ℕ)) → Delivers (λ x. startVerdict x ≡ passes) (elim x [ some rest ↦ fault NoReading | none ↦ (signedField "start" start-limits >>= λ z. return (Reading z)) text ])
     go text (some rest) = faulty NoReading (omega arith)
     go text none = reading .on text
 
@@ -121,17 +122,17 @@ yields-sheet =
 
 -- ---- the theorems
 
-gives-sheet : (text : List ℕ) (short : Bool) → Gives Acceptable (elim short [ true ↦ sheet text | false ↦ fault Oversized ])
+delivers-sheet : (text : List ℕ) (short : Bool) → Delivers Acceptable (elim short [ true ↦ sheet text | false ↦ fault Oversized ])
 unfolding number
-gives-sheet text true = yields-sheet .on text
-gives-sheet text false = faulty Oversized (omega arith)
+delivers-sheet text true = yields-sheet .on text
+delivers-sheet text false = faulty Oversized (omega arith)
 
 pub accepted-is-acceptable : (text : List ℕ) → readSheet text .outcome ≡ Accepted → Acceptable (readSheet text .sheet)
 unfolding readSheet accepted
-accepted-is-acceptable text = go (elim (leb (length text) most-bytes) [ true ↦ sheet text | false ↦ fault Oversized ]) (gives-sheet text (leb (length text) most-bytes))
+accepted-is-acceptable text = go (elim (leb (length text) most-bytes) [ true ↦ sheet text | false ↦ fault Oversized ]) (delivers-sheet text (leb (length text) most-bytes))
   where
-    go : (x : Parsed Sheet) → Gives Acceptable x → accepted x .outcome ≡ Accepted → Acceptable (accepted x .sheet)
-    go (parsed x rest) (gives g) h = g
+    go : (x : Parsed Sheet) → Delivers Acceptable x → accepted x .outcome ≡ Accepted → Acceptable (accepted x .sheet)
+    go (parsed x rest) (delivers g) h = g
     go (fault r) (faulty _ g) h = absurd (let z : _≡_ {A = ℕ} 0 1 = cc in omega arith)
 
 pub record RefusedSheet (r : Refusal) (step : ℕ) (sheet : Sheet) : Type 0 where
@@ -141,17 +142,31 @@ pub record RefusedSheet (r : Refusal) (step : ℕ) (sheet : Sheet) : Type 0 wher
 
 pub refused-is-zeros : (text : List ℕ) {r : Refusal} {step : ℕ} → readSheet text .outcome ≡ Refused r step → RefusedSheet r step (readSheet text .sheet)
 unfolding readSheet accepted
-refused-is-zeros text {r} {step} = go (elim (leb (length text) most-bytes) [ true ↦ sheet text | false ↦ fault Oversized ]) (gives-sheet text (leb (length text) most-bytes))
+refused-is-zeros text {r} {step} = go (elim (leb (length text) most-bytes) [ true ↦ sheet text | false ↦ fault Oversized ]) (delivers-sheet text (leb (length text) most-bytes))
   where
-    go : (x : Parsed Sheet) → Gives Acceptable x → accepted x .outcome ≡ Refused r step → RefusedSheet r step (accepted x .sheet)
-    go (parsed x rest) (gives g) h = absurd (let z : _≡_ {A = ℕ} 0 1 = cc in omega arith)
+    go : (x : Parsed Sheet) → Delivers Acceptable x → accepted x .outcome ≡ Refused r step → RefusedSheet r step (accepted x .sheet)
+    go (parsed x rest) (delivers g) h = absurd (let z : _≡_ {A = ℕ} 0 1 = cc in omega arith)
     go (fault found) (faulty _ g) h = let same : found ≡ r = cc in record { zeros = refl; before-steps = cc; first-four = rw same at g }
 
 -- ---- refusals 1 and 4
 
+oversized : (text : List ℕ) → most-bytes < length text → readSheet text ≡ accepted (fault Oversized)
+unfolding readSheet
+oversized text h = rw (lt-leb (length text) most-bytes h)
+
 pub long-text-is-oversized : (text : List ℕ) → most-bytes < length text → readSheet text .outcome ≡ Refused Oversized 0
-unfolding readSheet accepted
-long-text-is-oversized text h = rw (lt-leb (length text) most-bytes h)
+unfolding accepted
+long-text-is-oversized text h = rw (oversized text h)
+
+-- a text is read as its front is, if that has room for a byte more than a sheet may have: where there are more, both are too long
+pub read-from-front : (room : ℕ) (text : List ℕ) → most-bytes < room → readSheet (take room text) ≡ readSheet text
+read-from-front room text enough = ⊎-elim long short (before-or-past room (length text))
+  where
+    long : room < length text → readSheet (take room text) ≡ readSheet text
+    long h = oversized (take room text) (rw (length-take-le room text (omega arith)) enough) ∙ sym (oversized text (omega arith))
+
+    short : length text ≤ room → readSheet (take room text) ≡ readSheet text
+    short h = ap readSheet (take-all room text h)
 
 pub starts-are-readings : (sheet : Sheet) → sheetVerdict sheet ≡ passes → (i : ℕ) → i < sheet .n → (z : ℤ) × (getD (sheet .quantity) i no-quantity .start ≡ Reading z)
 unfolding quantityVerdict startVerdict

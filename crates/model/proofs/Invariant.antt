@@ -14,29 +14,13 @@ use Rattle.model.specs.Sheet.{scale, most, no-term}
 use Rattle.model.specs.Exact.{bringsℤ}
 use Rattle.model.specs.Step.{Ball, no-ball, reach, greatest, brings, ratio, Coefficients, coefficient, factor, share, nextCoefficient, coefficientsTo}
 use Rattle.model.specs.Passage.{most-ratio}
+use Rattle.model.specs.Bounds.{total, most-total, InBounds}
 use Rattle.model.specs.declared.Term.{Term}
 use Rattle.model.proofs.Ranges.{sum-le, largest-bounded, largest-le, sum-partial}
 use Rattle.model.proofs.Tables.{coefficients-grow, factor-stays}
 use Rattle.model.proofs.Reach.{reach-rounded, reach-sums}
 use Rattle.model.proofs.Shares.{FactorsReach, factor-reach, brings-reach, shares-weighed}
 use Rattle.model.proofs.Weights.{weightOf, weight-by-ratio}
-
--- What a sheet's verdict says of its terms and its step, n being the number of quantities. Of the coefficients only their total is bounded.
-pub record TermsInBounds (terms : List Term) (H : ℤ) (n : ℕ) : Type 0 where
-  pub count : length terms ≤ 32
-  pub total : sum (length terms) (λ j. natAbs (getD terms j no-term .coef)) ≤ 32 * 268435456
-  pub formed : (j : ℕ) → getD terms j no-term .first ≡ 0 → getD terms j no-term .second ≡ 0
-  pub step : natAbs H ≤ scale
-  pub to-low : (j : ℕ) → j < length terms → 1 ≤ getD terms j no-term .to
-  pub to-high : (j : ℕ) → j < length terms → getD terms j no-term .to ≤ n
-  pub first-high : (j : ℕ) → j < length terms → getD terms j no-term .first ≤ n
-  pub second-high : (j : ℕ) → j < length terms → getD terms j no-term .second ≤ n
-
--- What questions 4 and 5 say besides, of the balls that a step starts from.
-pub record InBounds (terms : List Term) (H : ℤ) (balls : List Ball) : Type 0 where
-  pub sheet : TermsInBounds terms H (length balls)
-  pub small : (i : ℕ) → i < length balls → reach (getD balls i no-ball) ≤ most
-  pub slow : ratio terms H (length balls) (greatest balls) ≤ most-ratio
 
 -- ---- G
 
@@ -71,7 +55,7 @@ module _ {terms : List Term} {H : ℤ} {balls : List Ball} (bounds : InBounds te
   module _ (table : Coefficients) (k : ℕ) (reaches : FactorsReach table k (greatest balls)) where
     pub shares-bounded : (i m : ℕ) → i < length balls → m ≤ length terms →
         4 * sum m (λ j. brings (suc i) (getD terms j no-term) (reach (share H table k (getD terms j no-term)))) ≤ suc k * (2 * greatest balls + 5) + 5440
-    unfolding scale weightOf
+    unfolding scale weightOf total most-total
     shares-bounded i m h l =
         combine (greatest balls) _ (natAbs H * weightOf terms (greatest balls) (suc i)) _ _ (scale-le-greatest balls) (shares-weighed table k reaches H (scale-le-greatest balls) (λ j. getD terms j no-term) (bounds .sheet .formed) (suc i) m .bound) (mul-le-mul-left (natAbs H) (sum-partial _ (length terms) l)) (weight-halved i h) (le-trans (sum-partial _ (length terms) l) (bounds .sheet .total)) (le-trans l (bounds .sheet .count))
       where
