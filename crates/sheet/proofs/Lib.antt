@@ -1,3 +1,4 @@
 pub mod Verdicts
 pub mod Arrays
 pub mod Bodies
+pub mod Numbers

@@ -2,7 +2,7 @@
 ghost use mathlib.Core.Path.{_≡_};
 ghost use Prim.Native.Nat.{_≤_};
 ghost use Rattle.model.specs.Reading as model;
-ghost use Rattle.model.specs.Sheet.{no-quantity, no-term};
+ghost use Rattle.model.specs.Sheet.{no-quantity, no-term, result, Gives};
 ghost use Rattle.lines.specs.Places.{rest};
 ghost use Rattle.sheet.specs.Sheets.{startRead, quantityRead, termRead, headRead, head, HeadInRange, body, quantitiesRead, quantities, termsRead, terms};
 use crate::limits;
@@ -64,7 +64,7 @@ pub struct Terms {
 fn read_start(text: &[u8], from: Cursor) -> WholeLine
     ensures { λ r. ⌜ startRead (now (text .entry)) r ≡ model.start (rest (now (text .entry)) from) ⌝ }
 {
-    if let After::Here(_) = from.after(text, b"start=none\n") {
+    if let After::Here(_next) = from.after(text, b"start=none\n") {
         return WholeLine::Fault(Refusal::NoReading);
     }
     from.whole_field(text, b"start=", true, limits::START)
@@ -314,7 +314,8 @@ pub const MOST_BYTES: usize = 4096;
 
 // The reading of a sheet: question 1, then its lines from the top.
 pub fn read(text: &[u8]) -> Reading
-    ensures { λ r. ⌜ r ≡ model.readSheet (now (text .entry)) ⌝ }
+    ensures whole { λ r. ⌜ r ≡ model.readSheet (now (text .entry)) ⌝ }
+    ensures numbered { λ r. ⌜ Gives (r .outcome) (result (model.readSheet (now (text .entry)) .outcome)) 0 ⌝ }
 {
     if MOST_BYTES < text.len() {
         return refused(Refusal::Oversized);

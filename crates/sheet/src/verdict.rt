@@ -111,7 +111,8 @@ fn terms_within(n: usize, count: usize, terms: [Term; TERMS]) -> bool
 
 // What the ranges say of a sheet given as numbers; nothing past its counts is looked at.
 pub fn verdict(sheet: Sheet) -> Outcome
-    ensures { λ r. ⌜ r ≡ outcome (model.sheetVerdict sheet) ⌝ }
+    ensures whole { λ r. ⌜ r ≡ outcome (model.sheetVerdict sheet) ⌝ }
+    ensures numbered { λ r. ⌜ model.Gives r (model.verdictNumber (model.sheetVerdict sheet)) 0 ⌝ }
 {
     if !head_within(sheet) {
         return in_range(false);

@@ -17,9 +17,13 @@ unfolding second-limits
 beside-factor n zero h = absurd (h refl)
 beside-factor n (suc first) h = refl
 
+without-factor : (n : ℕ) {first : ℕ} → first ≡ 0 → from 0 to 0 ≡ second-limits n first
+unfolding second-limits
+without-factor n e = rw e
+
 returns : tie.Need-returns
-unfolding limitsOf second-limits from_to_
-returns c = rw (c .if1 .taken)
+unfolding limitsOf from_to_
+returns c = without-factor (c .before .args .n) (c .if1 .taken)
 
 returns-2 : tie.Need-returns-2
 unfolding limitsOf from_to_

@@ -1,24 +1,33 @@
 -- `sheet::reading::read` meets its contract: question 1, then the parts of the sheet.
 -- Assumes nothing.
 use mathlib.Core.Path.{_≡_, sym, ap, _∙_}
+use native.Mathlib.Omega.{arith}
 use borrow.Author.Tests.{le-leb, lt-leb}
 use denote.Ref.{now}
-use Prim.Native.Nat.{ℕ, _≤_}
+use Prim.Native.Nat.{ℕ, _<_, _≤_}
 use mathlib.Core.List.{List}
 use lib.ListN.{length}
-use Rattle.model.specs.Reading.{parsed, _>>=_, accepted, readSheet, most-bytes}
+use Rattle.model.specs.Reading.{parsed, fault, _>>=_, accepted, readSheet, most-bytes}
+use Rattle.model.specs.declared.Refusal.the-variants.{Oversized}
 use Rattle.lines.specs.Places.{rest}
 use Rattle.sheet.specs.Sheets.{headRead, head, body}
 use Rattle.lines.proofs.Spellings.{read-as}
 use Rattle.lines.proofs.Parsers.{bind-parsed, bind-fault}
+use Rattle.sheet.proofs.Numbers.{reading-numbered}
 use Rattle.sheet.proofs.Bodies.{sheet-parts, head-in-range}
 use borrow.Author.Needs.{needs}
 use Rattle.sheet.proofs.reading.read.Statement.{statement}
 use Rattle.sheet.proofs.reading.read.Tie as tie
 
-returns : tie.Need-returns
+-- a sheet that is too long is not read
+too-long : (text : List ℕ) → 4096 < length text → readSheet text ≡ accepted (fault Oversized)
 unfolding readSheet most-bytes
-returns c = rw (lt-leb (length (now (c .before .before .before .args .text))) 4096 (c .before .if1 .taken), readSheet) (c .refused .ensures)
+too-long text h = rw (lt-leb (length text) 4096 h, readSheet)
+
+returns : tie.Need-returns
+returns c =
+    let text = now (c .before .before .before .args .text) in
+    reading-numbered text (c .refused .ensures ∙ sym (too-long text (omega (arith, c .before .if1 .taken))))
 
 -- a sheet that is not too long is read from the top, part by part
 in-parts : (text : List ℕ) → length text ≤ 4096 → readSheet text ≡ accepted ((head >>= body) text)
@@ -35,14 +44,15 @@ after-head-requires c κs = head-in-range _ (head-holds (c .before))
 returns-2 : tie.Need-returns-2
 returns-2 c =
     let held = c .before .before in
-    c .after-head .ensures ∙ sym (in-parts (now (held .before .before .before .before .before .args .text)) (held .before .before .before .if1 .left) ∙ ap accepted (bind-parsed _ _ (head-holds held)))
+    let text = now (held .before .before .before .before .before .args .text) in
+    reading-numbered text (c .after-head .ensures ∙ sym (in-parts text (omega (arith, held .before .before .before .if1 .left)) ∙ ap accepted (bind-parsed _ _ (head-holds held))))
 
 returns-3 : tie.Need-returns-3
 unfolding headRead rest
 returns-3 c =
     let told = c .before .before in
     let text = now (told .before .before .before .before .before .args .text) in
-    c .refused2 .ensures ∙ sym (in-parts text (told .before .before .before .if1 .left) ∙ ap accepted (bind-fault _ _ (read-as (headRead text) (told .before .before .read-head .ensures) (told .refusal .given .1))))
+    reading-numbered text (c .refused2 .ensures ∙ sym (in-parts text (omega (arith, told .before .before .before .if1 .left)) ∙ ap accepted (bind-fault _ _ (read-as (headRead text) (told .before .before .read-head .ensures) (told .refusal .given .1)))))
 
 refused-requires : tie.Need-refused-requires
 refused-requires c κs = search needs

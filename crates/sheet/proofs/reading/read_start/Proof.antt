@@ -3,11 +3,13 @@
 use Prim.Native.Nat.{ℕ}
 use mathlib.Core.Path.{_≡_, sym}
 use mathlib.Core.List.{List}
+use mathlib.Core.Option.{some}
 use denote.Ref.{now}
 use lib.IntN.{ℤ}
 use Rattle.model.specs.Range.{bytes}
-use Rattle.model.specs.Reading.{Parser, return, _>>=_, start, signedField, line}
+use Rattle.model.specs.Reading.{Parser, fault, return, _>>=_, start, after, signedField, line}
 use Rattle.model.specs.Sheet.{start-limits, ±_, most}
+use Rattle.model.specs.declared.Refusal.the-variants.{NoReading}
 use Rattle.model.specs.declared.Start.the-variants.{Reading}
 use Rattle.lines.specs.Ranges.{limitsOf}
 use Rattle.lines.specs.Places.{rest, foundAfter, spelling, lineAfter}
@@ -21,11 +23,17 @@ use borrow.Author.Needs.{needs}
 use Rattle.sheet.proofs.reading.read_start.Statement.{statement}
 use Rattle.sheet.proofs.reading.read_start.Tie as tie
 
+-- `none` is no reading
+missing : (l : List ℕ) {m : List ℕ} → after (bytes "start=none\n") l ≡ some m → start l ≡ fault NoReading
+unfolding start
+missing l e = rw (e, start)
+
 returns : tie.Need-returns
-unfolding startRead foundAfter start bytes
+unfolding startRead foundAfter bytes
 returns c =
-    let a = c .before .before .before .before .before in
-    rw (read-as (foundAfter (now (a .args .text))) (c .before .before .after .ensures) (c .enum-told .given .1), start)
+    let next = c .before in
+    let a = next .before .before .before .before .before in
+    sym (missing _ (read-as (foundAfter (now (a .args .text))) (next .before .before .after .ensures) (next .-next .given .1)))
 
 start-of : (text : List ℕ) (p : Parser ℤ) (l : List ℕ) (r : WholeLine) → wholeRead text r ≡ p l → startRead text r ≡ (p >>= (λ (z : ℤ). return (Reading z))) l
 unfolding wholeRead startRead return
@@ -37,7 +45,7 @@ unfolding foundAfter start bytes signedField line wholeAfter lineAfter spelling 
 returns-2 c =
     let told = c .before .before in
     let a = told .before .before .before .before .before in
-    rw (read-as (foundAfter (now (a .args .text))) (told .before .before .after .ensures) (told .enum-told2 .given .1), start)
+    rw (read-as (foundAfter (now (a .args .text))) (told .before .before .after .ensures) (told .enum-told .given .1), start)
     (start-of (now (a .args .text)) _ (rest (now (a .args .text)) (a .args .from)) (c .whole-field .result) (c .whole-field .ensures))
 
 slice-aggregate-after : tie.Need-slice-aggregate-after
@@ -46,11 +54,11 @@ slice-aggregate-after c = search needs
 after-requires : tie.Need-after-requires
 after-requires c κs = search needs
 
+enum-known-next : tie.Need-enum-known--next
+enum-known-next c = search needs
+
 enum-told : tie.Need-enum-told
 enum-told c = search needs
-
-enum-told-2 : tie.Need-enum-told-2
-enum-told-2 c = search needs
 
 slice-aggregate-whole-field : tie.Need-slice-aggregate-whole-field
 slice-aggregate-whole-field c = search needs
@@ -64,9 +72,9 @@ read-start-spec =
     (tie.spec
     slice-aggregate-after
     after-requires
-    enum-told
+    enum-known-next
     returns
-    enum-told-2
+    enum-told
     slice-aggregate-whole-field
     whole-field-requires
     returns-2)

@@ -1,10 +1,13 @@
 -- `sheet::verdict::start_verdict` meets its contract.
 -- Assumes nothing.
-use mathlib.Core.Path.{ap, _∙_}
+use mathlib.Core.Path.{_≡_, ap, _∙_}
 use mathlib.Core.Bool.{Bool}
 use mir.Facts.{toZ-ofZ}
 use Rattle.model.specs.Sheet.{ask, inRange, startVerdict, start-limits, ±_, most}
-use Rattle.model.specs.declared.Refusal.the-variants.{OutOfRange}
+use Rattle.model.specs.declared.Start.{Start}
+use Rattle.model.specs.declared.Start.the-variants.{Missing}
+use Rattle.model.specs.declared.Refusal.the-variants.{OutOfRange, NoReading}
+use Rattle.model.specs.declared.Outcome.the-variants.{Refused}
 use Rattle.lines.specs.Ranges.{limitsOf}
 use Rattle.sheet.specs.Verdicts.{outcome}
 use borrow.Author.Needs.{needs}
@@ -17,9 +20,13 @@ returns c =
     rw (c .before .before .before .start .given .1)
     (c .in-range .ensures ∙ ap (λ (b : Bool). outcome (ask b OutOfRange)) (rw (toZ-ofZ (record { sfits = c .before .before .known-told .given .0 .1 })) at (c .before .within .ensures)))
 
-returns-2 : tie.Need-returns-2
+-- a missing reading is refused, before step 1
+no-reading : {start : Start} → start ≡ Missing → Refused NoReading 0 ≡ outcome (startVerdict start)
 unfolding startVerdict outcome
-returns-2 c = rw (c .enum-told .given .1)
+no-reading e = rw e
+
+returns-2 : tie.Need-returns-2
+returns-2 c = no-reading (c .enum-told .given .1)
 
 enum-known-start : tie.Need-enum-known-start
 enum-known-start c = search needs

@@ -4,10 +4,11 @@ use mathlib.Core.Path.{_≡_, refl, sym, ap, _∙_}
 use mathlib.Core.Bool.{Bool, true}
 use borrow.Author.Tests.{not-true, not-false}
 use lib.IntN.{pos}
-use Rattle.model.specs.Sheet.{Verdict, passes, ask, _then_, within, inRange, terms-limits, from_to_}
+use Rattle.model.specs.Sheet.{Verdict, passes, ask, _then_, within, inRange, terms-limits, from_to_, sheetVerdict}
 use Rattle.model.specs.declared.Refusal.the-variants.{OutOfRange}
 use Rattle.lines.specs.Ranges.{limitsOf}
 use Rattle.sheet.specs.Verdicts.{outcome, headVerdict, quantitiesVerdict}
+use Rattle.sheet.proofs.Numbers.{verdict-numbered}
 use Rattle.sheet.proofs.Verdicts.{passes-as, refused-first, in-parts, head-passes, at-most, answered-no, answered-yes}
 use borrow.Author.Needs.{needs}
 use Rattle.sheet.proofs.verdict.verdict.Statement.{statement}
@@ -33,8 +34,10 @@ terms-passed c = answered-yes _ (terms-asked (c .before)) refl (c .if2 .left)
 returns : tie.Need-returns
 unfolding _then_ ask
 returns c =
-    rw (in-parts (c .before .before .before .args .sheet), head-answer (c .before .before .head-within .ensures) (not-true (c .before .before .head-within .result) (c .before .if1 .taken)))
-    (c .in-range .ensures)
+    let sheet = c .before .before .before .args .sheet in
+    verdict-numbered (sheetVerdict sheet)
+    (rw (in-parts sheet, head-answer (c .before .before .head-within .ensures) (not-true (c .before .before .head-within .result) (c .before .if1 .taken)))
+    (c .in-range .ensures))
 
 quantities-verdict-requires : tie.Need-quantities-verdict-requires
 quantities-verdict-requires c κs = head-passes (c .before .before .before .args .sheet) (head-passed (c .before))
@@ -42,20 +45,24 @@ quantities-verdict-requires c κs = head-passes (c .before .before .before .args
 returns-2 : tie.Need-returns-2
 unfolding _then_
 returns-2 c =
-    rw (in-parts (c .before .before .before .before .before .before .args .sheet), head-passed (c .before .before .before .before))
-    (refused-first _ _ (c .before .before .quantities-verdict .ensures) (c .enum-told .given .1))
+    let sheet = c .before .before .before .before .before .before .args .sheet in
+    verdict-numbered (sheetVerdict sheet)
+    (rw (in-parts sheet, head-passed (c .before .before .before .before))
+    (refused-first _ _ (c .before .before .quantities-verdict .ensures) (c .enum-told .given .1)))
 
 returns-3 : tie.Need-returns-3
 unfolding _then_ ask inRange
 returns-3 c =
     let q = c .before .before .before in
-    rw (
-      in-parts (q .before .before .before .before .before .before .args .sheet),
+    let sheet = q .before .before .before .before .before .before .args .sheet in
+    verdict-numbered (sheetVerdict sheet)
+    (rw (
+      in-parts sheet,
       head-passed (q .before .before .before .before),
       quantities-passed q,
       answered-no _ (terms-asked (c .before .before)) refl (c .before .if2 .taken),
     )
-    (c .in-range2 .ensures)
+    (c .in-range2 .ensures))
 
 terms-within-requires : tie.Need-terms-within-requires
 unfolding terms-limits
@@ -71,13 +78,10 @@ unfolding _then_ ask inRange
 returns-4 c =
     let terms = c .before .before .before in
     let q = terms .before .before in
-    rw (
-      in-parts (q .before .before .before .before .before .before .args .sheet),
-      head-passed (q .before .before .before .before),
-      quantities-passed q,
-      terms-passed terms,
-    )
-    (c .in-range3 .ensures ∙ ap outcome (c .before .terms-within .ensures))
+    let sheet = q .before .before .before .before .before .before .args .sheet in
+    verdict-numbered (sheetVerdict sheet)
+    (rw (in-parts sheet, head-passed (q .before .before .before .before), quantities-passed q, terms-passed terms)
+    (c .in-range3 .ensures ∙ ap outcome (c .before .terms-within .ensures)))
 
 head-within-requires : tie.Need-head-within-requires
 head-within-requires c κs = search needs
