@@ -15,7 +15,8 @@ use Rattle.model.specs.declared.Ball.{Ball}
 use Rattle.model.specs.declared.Term.{Term}
 use Rattle.model.proofs.Ranges.{before-or-past, sum-equal, sumℤ-equal, length-tabulate}
 use Rattle.model.proofs.Tables.{coefficients-grow}
-use Rattle.model.proofs.Bounds.{InBounds, greatest-le-most, coefficient-bounded}
+use Rattle.model.specs.Bounds.{InBounds}
+use Rattle.model.proofs.Invariant.{greatest-le-most, coefficient-bounded}
 use Rattle.coefficients.specs.Layout.{quantities, ballAt, tableIn, startIn, Small, Filled}
 use Rattle.coefficients.proofs.Places.{ball-equal, coefficient-in, coefficient-past}
 

@@ -12,7 +12,8 @@ use Rattle.model.specs.declared.Ball.{Ball}
 use Rattle.model.specs.declared.Term.{Term}
 use Rattle.model.proofs.Ranges.{before-or-past, getD-tabulate, tabulate-equal}
 use Rattle.model.proofs.Tables.{Grows, coefficients-grow}
-use Rattle.model.proofs.Bounds.{InBounds, factor-bounded}
+use Rattle.model.specs.Bounds.{InBounds}
+use Rattle.model.proofs.Invariant.{factor-bounded}
 use Rattle.model.proofs.WorkingNumbers.{brought-fits}
 use Rattle.coefficients.specs.Layout.{quantities, orders, ballAt, startIn, sumsTo, closed, Table, Closed, NothingPast, Filled}
 use Rattle.coefficients.proofs.Filled.{length-start}

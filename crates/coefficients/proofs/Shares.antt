@@ -18,7 +18,8 @@ use Rattle.model.specs.Exact.{bringsℤ}
 use Rattle.model.specs.Step.{Coefficients, no-ball, reach, brings, products, times, share, coefficientsTo}
 use Rattle.model.specs.declared.Ball.{Ball}
 use Rattle.model.specs.declared.Term.{Term}
-use Rattle.model.proofs.Bounds.{InBounds, factor-bounded}
+use Rattle.model.specs.Bounds.{InBounds}
+use Rattle.model.proofs.Invariant.{factor-bounded}
 use Rattle.model.proofs.WorkingNumbers.{step-product-fits, term-product-fits, brought-fits}
 use Rattle.coefficients.specs.Layout.{quantities, ballIn, termAt, termsIn, tableIn, startIn, sumsTo, Filled}
 use Rattle.coefficients.proofs.Places.{ball-equal}

@@ -9,8 +9,8 @@ use Rattle.model.specs.Range.{sum, sumℤ}
 use Rattle.model.specs.Sheet.{no-term}
 use Rattle.model.specs.declared.Term.{Term}
 use Rattle.model.proofs.Ranges.{sum-equal, sumℤ-equal, length-tabulate, getD-tabulate}
-use Rattle.model.proofs.Bounds.{TermsInBounds}
-use Rattle.coefficients.specs.Layout.{quantities, termAt, termsIn, Numbered, total, most-total}
+use Rattle.model.specs.Bounds.{TermsInBounds}
+use Rattle.coefficients.specs.Layout.{quantities, termAt, termsIn, Numbered}
 
 -- a sum over the terms is a sum over the arrays' places
 module _ (count : ℕ) (to : List ℕ) (coef : List ℤ) (first second : List ℕ) where
@@ -29,11 +29,6 @@ module _ (count : ℕ) (to : List ℕ) (coef : List ℤ) (first second : List �
   pub sumℤ-terms : (f : Term → ℤ) → sumℤ (length (termsIn count to coef first second)) (λ j. f (getD (termsIn count to coef first second) j no-term)) ≡ sumℤ count (λ j. f (termAt to coef first second j))
   sumℤ-terms f =
       rw length-terms (sumℤ-equal count (λ j. f (getD (termsIn count to coef first second) j no-term)) (λ j. f (termAt to coef first second j)) (λ j h. ap f (getD-terms j h)))
-
--- the sum of all |A|, as the laws of the ratio's numbers ask it
-pub total-bounded : (terms : List Term) → total terms ≤ most-total → sum (length terms) (λ j. natAbs (getD terms j no-term .coef)) ≤ 32 * 268435456
-unfolding total most-total
-total-bounded terms h = h
 
 -- the factors' numbers are those of quantities
 pub terms-numbered : {H : ℤ} {n : ℕ} (count : ℕ) (to : List ℕ) (coef : List ℤ) (first second : List ℕ) → TermsInBounds (termsIn count to coef first second) H n → n ≤ quantities → Numbered count first second

@@ -36,13 +36,6 @@ pub record Numbered (count : ℕ) (first second : List ℕ) : Type 0 where
   pub in-first : (j : ℕ) → j < count → getD first j 0 ≤ quantities
   pub in-second : (j : ℕ) → j < count → getD second j 0 ≤ quantities
 
--- the sum of |A| over all terms, and the most that it is: 32 terms of the largest coefficient
-unfoldable pub total : List Term → ℕ
-total terms = sum (length terms) (λ j. natAbs (getD terms j no-term .coef))
-
-unfoldable pub most-total : ℕ
-most-total = 32 * 268435456
-
 -- ---- a table of coefficients: 8 quantities with orders 0 to 28 each, those of one quantity side by side
 
 unfoldable pub orders : ℕ

@@ -9,7 +9,7 @@ ghost use lib.ListN.{length, getD, set, replicate};
 ghost use Rattle.rounding.specs.Rounding as round;
 ghost use Rattle.model.specs.Sheet.{scale, most};
 ghost use Rattle.model.specs.Step as rule;
-ghost use Rattle.model.proofs.Bounds.{InBounds};
+ghost use Rattle.model.specs.Bounds.{InBounds};
 ghost use Rattle.coefficients.specs.Layout.{quantities, ballIn, ballAt, termsIn, sumsTo, tableIn, startIn, Table, Small, Written, closed, Closed, NothingPast, Filled, Numbered};
 use crate::ORDERS;
 use crate::PLACES;

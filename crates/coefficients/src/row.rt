@@ -1,10 +1,10 @@
 // Document 01, 'New row': the sums of the orders.
 ghost use mathlib.Core.Path.{_≡_};
 ghost use Prim.Native.Nat.{_+_, _^_, _≤_, _<_};
-ghost use lib.ListN.{length};
+ghost use lib.Seq.{sets};
 ghost use Rattle.model.specs.Range.{tabulate};
 ghost use Rattle.model.specs.Step as rule;
-ghost use Rattle.coefficients.specs.Layout.{quantities, ballsIn, tableIn, Small};
+ghost use Rattle.coefficients.specs.Layout.{quantities, tableIn, Small};
 use crate::ORDERS;
 use crate::PLACES;
 use model::Ball;
@@ -37,7 +37,7 @@ fn new_ball(
     Ball { value, radius }
 }
 
-// The new row of n quantities, over the values and radii that the step started from.
+// Puts the new row of n quantities into the first n places of two arrays, and changes no other place.
 pub fn new_row(
     n: usize,
     degree: usize,
@@ -50,9 +50,8 @@ pub fn new_row(
     requires { ⌜ (n ≤ quantities) × (degree ≤ 28) ⌝ }
     requires { ⌜ tail ≤ 2 ^ 32 ⌝ }
     requires { ⌜ Small degree (now values) (now reaches) ⌝ }
-    requires { ⌜ (length (now row) ≡ quantities) × (length (now radii) ≡ quantities) ⌝ }
-    ensures { λ _. ⌜ (length (now (row .exit)) ≡ quantities) × (length (now (radii .exit)) ≡ quantities) ⌝ }
-    ensures { λ _. ⌜ ballsIn n (now (row .exit)) (now (radii .exit)) ≡ tabulate n (rule.newBall (tableIn degree (now (values .entry)) (now (reaches .entry))) degree tail) ⌝ }
+    ensures { λ _. ⌜ now (row .exit) ≡ sets (now (row .entry)) 0 (tabulate n (λ i. rule.newBall (tableIn degree (now (values .entry)) (now (reaches .entry))) degree tail i .value)) ⌝ }
+    ensures { λ _. ⌜ now (radii .exit) ≡ sets (now (radii .entry)) 0 (tabulate n (λ i. rule.newBall (tableIn degree (now (values .entry)) (now (reaches .entry))) degree tail i .radius)) ⌝ }
 {
     let mut i = 0;
     while i < n {

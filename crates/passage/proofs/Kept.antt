@@ -1,17 +1,16 @@
 -- The promise of a passage, by the way that it ends; and demand 3 of the rows that stand in the buffer. Assumes nothing.
 use Prim.Native.Nat.{_≤_, _<_}
-use mathlib.Core.Path.{_≡_}
+use mathlib.Core.Path.{_≡_, ap}
 use mathlib.Core.List.{List}
 use lib.IntN.{ℤ}
 use lib.ListN.{length}
-use Rattle.model.specs.Sheet.{passes, refuses, sheetVerdict}
-use Rattle.model.specs.Passage.{termsOf, startsOf, placesNeeded, run, passage, refused, places, written}
+use Rattle.model.specs.Sheet.{result, refusedStep, Gives, passes, refuses, sheetVerdict}
+use Rattle.model.specs.Passage.{termsOf, startsOf, placesNeeded, run, passage, refused, places, written, Finished}
 use Rattle.model.specs.declared.Sheet.{Sheet}
 use Rattle.model.specs.declared.Refusal.{Refusal}
 use Rattle.model.specs.declared.Refusal.the-variants.{TooFewPlaces}
 use Rattle.model.specs.declared.Outcome.{Outcome}
 use Rattle.model.specs.declared.Outcome.the-variants.{Refused}
-use Rattle.model.proofs.Follow.{Finished}
 use Rattle.model.proofs.Passages.{rows-in-written, rows-of-passage, passage-refused, passage-too-few-places, passage-runs}
 use Rattle.model.proofs.Trusted.{passage-trusted}
 use Rattle.passage.specs.Promise.{Kept, TrustedRows}
@@ -40,6 +39,9 @@ kept-trusted sheet {before} {after} {outcome} k =
     let rows = rows-of-passage sheet (length before) in
     rw (k .answer, k .buffer, ← (rows .count), rows-in-written (rows .wide) before) (passage-trusted sheet (length before))
 
+kept-gives : (sheet : Sheet) {before after : List ℤ} {outcome : Outcome} → Kept sheet before after outcome → Gives outcome (result (passage sheet (length before) .outcome)) (refusedStep (passage sheet (length before) .outcome))
+kept-gives sheet k = record { result-is = ap result (k .answer); step-is = ap refusedStep (k .answer) }
+
 -- all that a passage promises
-pub promised : (sheet : Sheet) {before after : List ℤ} {outcome : Outcome} → Kept sheet before after outcome → Kept sheet before after outcome × TrustedRows sheet after outcome
-promised sheet k = (k, kept-trusted sheet k)
+pub promised : (sheet : Sheet) {before after : List ℤ} {outcome : Outcome} → Kept sheet before after outcome → Kept sheet before after outcome × (TrustedRows sheet after outcome × Gives outcome (result (passage sheet (length before) .outcome)) (refusedStep (passage sheet (length before) .outcome)))
+promised sheet k = (k, (kept-trusted sheet k, kept-gives sheet k))

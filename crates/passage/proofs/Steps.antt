@@ -1,6 +1,6 @@
 -- What the code's answer to a step says of the step by the definition. Assumes nothing.
 use Prim.Native.Nat.{ℕ, _≤_, _<_}
-use mathlib.Core.Path.{_≡_}
+use mathlib.Core.Path.{_≡_, refl, ap, _∙_}
 use mathlib.Core.List.{List}
 use lib.IntN.{ℤ}
 use lib.ListN.{length, getD}
@@ -18,7 +18,9 @@ use Rattle.taylor.specs.declared.step.Balls.{Balls}
 use Rattle.taylor.specs.declared.step.Stepped.{Stepped}
 use Rattle.taylor.specs.declared.step.Advance.the-variants.{Moves, Stops}
 use Rattle.coefficients.specs.Layout.{ballIn, ballsIn}
-use Rattle.taylor.specs.Step.{StepIs}
+use Rattle.model.specs.Passage as means
+use Rattle.taylor.specs.Step.{answered, advanceNumber, advanceDegree, degreeOf, Numbered}
+use Rattle.taylor.proofs.LaidOut.{balls-laid-out, length-row}
 use Rattle.passage.specs.Promise.{stepOf}
 
 -- the row of a degree and of balls in arrays
@@ -29,19 +31,32 @@ pub length-balls : (n : ℕ) (balls : Balls) → length (ballsIn n (balls .value
 unfolding ballsIn
 length-balls n balls = length-tabulate n (ballIn (balls .values) (balls .radii))
 
-pub step-moves : (n : ℕ) (start : Balls) (next : Advance) (stepped : Stepped) (degree : ℕ) → StepIs n start next stepped → stepped .advance ≡ Moves degree → next ≡ moves (rowOf n degree (stepped .balls))
-unfolding StepIs
-step-moves n start (moves row) stepped degree is e =
-    let same : degree ≡ row .degree = cc (is .0) in
-    rw (same, is .1)
-step-moves n start (stops r) stepped degree is e = cc (is .0)
+-- the code's answer is a row or a refusal where the definition's is
+moves-to : (n : ℕ) (start : Balls) (next : Advance) (stepped : Stepped) (degree : ℕ) → ((row : Row) → next ≡ moves row → length (row .balls) ≡ n) → stepped ≡ answered start next → stepped .advance ≡ Moves degree → next ≡ moves (rowOf n degree (stepped .balls))
+unfolding answered
+moves-to n start (moves row) stepped degree full is e =
+    let told : stepped .advance ≡ Moves (row .degree) = ap (λ (s : Stepped). s .advance) is in
+    let same : degree ≡ row .degree = cc told in
+    rw (is, same, balls-laid-out n (row .balls) (full row refl))
+moves-to n start (stops r) stepped degree full is e =
+    let told : stepped .advance ≡ Stops r = ap (λ (s : Stepped). s .advance) is in
+    cc told
 
-pub step-stops : (n : ℕ) (start : Balls) (next : Advance) (stepped : Stepped) (r : Refusal) → StepIs n start next stepped → stepped .advance ≡ Stops r → next ≡ stops r
-unfolding StepIs
-step-stops n start (moves row) stepped r is e = cc (is .0)
-step-stops n start (stops refusal) stepped r is e = let same : refusal ≡ r = cc (is .0) in rw same
+pub step-stops : (start : Balls) (next : Advance) (stepped : Stepped) (r : Refusal) → stepped ≡ answered start next → stepped .advance ≡ Stops r → next ≡ stops r
+unfolding answered
+step-stops start (moves row) stepped r is e =
+    let told : stepped .advance ≡ Moves (row .degree) = ap (λ (s : Stepped). s .advance) is in
+    cc told
+step-stops start (stops refusal) stepped r is e =
+    let told : stepped .advance ≡ Stops refusal = ap (λ (s : Stepped). s .advance) is in
+    let same : refusal ≡ r = cc told in
+    rw same
 
 module _ (terms : List Term) (H : ℤ) (limit tol : ℕ) where
+  pub step-moves : (n : ℕ) (start : Balls) (stepped : Stepped) (degree : ℕ) → stepped ≡ answered start (advance terms H limit tol (ballsIn n (start .values) (start .radii))) → stepped .advance ≡ Moves degree → advance terms H limit tol (ballsIn n (start .values) (start .radii)) ≡ moves (rowOf n degree (stepped .balls))
+  step-moves n start stepped degree =
+      moves-to n start (advance terms H limit tol (ballsIn n (start .values) (start .radii))) stepped degree (λ row e. rw (step-taken terms H limit tol _ e .is-row) (length-row terms H limit _ ∙ length-balls n start))
+
   pub degree-at-most : (balls : List Ball) {row : Row} → advance terms H limit tol balls ≡ moves row → row .degree ≤ 28
   unfolding stepRow newRow degree
   degree-at-most balls e = rw (step-taken terms H limit tol balls e .is-row) (least-le 28 _)
@@ -51,6 +66,12 @@ module _ (terms : List Term) (H : ℤ) (limit tol : ℕ) where
   radii-at-most balls n degree row e i h =
       let tolerated = all-tolerated tol (ballsIn n (row .values) (row .radii)) (step-taken terms H limit tol balls e .is-tolerable) in
       rw (getD-tabulate n (ballIn (row .values) (row .radii)) no-ball i h) at (tolerated .within i (rw length-tabulate h))
+
+-- an answer that is the definition's gives the definition's number and degree
+pub with-its-number : {stepped : Stepped} (start : Balls) (next : Advance) → stepped ≡ answered start next → (stepped ≡ answered start next) × Numbered (stepped .advance) next
+unfolding answered advanceNumber advanceDegree degreeOf means.advanceNumber
+with-its-number start (moves row) e = (e, rw e (record { number-is = refl; degree-is = refl }))
+with-its-number start (stops r) e = (e, rw e (record { number-is = refl; degree-is = refl }))
 
 -- ---- one step of a sheet
 

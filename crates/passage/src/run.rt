@@ -5,9 +5,9 @@ ghost use lib.IntN.{pos};
 ghost use lib.ListN.{length, getD};
 ghost use lib.Seq.{sets};
 ghost use Rattle.model.specs.Range.{tabulate};
+ghost use Rattle.model.specs.Sheet.{result, refusedStep, Gives};
 ghost use Rattle.model.specs.Passage as passage;
-ghost use Rattle.model.proofs.Bounds.{TermsInBounds};
-ghost use Rattle.model.proofs.Follow.{Finished};
+ghost use Rattle.model.specs.Bounds.{TermsInBounds};
 ghost use Rattle.coefficients.specs.Layout.{quantities, ballsIn, termsIn};
 ghost use Rattle.passage.specs.Promise.{Kept, TrustedRows};
 use crate::layout::starts_of;
@@ -97,7 +97,7 @@ fn run_steps(
     requires { ⌜ (n ≤ quantities) × (terms ≤ 32) × (steps ≤ 400) ⌝ }
     requires { ⌜ (2 ≤ limit) × (limit ≤ 2 ^ 32) × (tol < 2 ^ 63) ⌝ }
     requires { ⌜ steps * passage.width n ≤ length (now rows) ⌝ }
-    ensures { λ r. ⌜ Finished (termsIn terms (now (to .entry)) (now (coef .entry)) (now (first .entry)) (now (second .entry))) step limit tol steps (ballsIn n (start .values) (start .radii)) (now (rows .entry)) r (now (rows .exit)) ⌝ }
+    ensures { λ r. ⌜ passage.Finished (termsIn terms (now (to .entry)) (now (coef .entry)) (now (first .entry)) (now (second .entry))) step limit tol steps (ballsIn n (start .values) (start .radii)) (now (rows .entry)) r (now (rows .exit)) ⌝ }
 {
     let places = width(n);
     let mut balls = start;
@@ -128,6 +128,7 @@ fn run_steps(
 pub fn run(sheet: Sheet, rows: &mut [i64]) -> Outcome
     ensures kept { λ r. ⌜ Kept sheet (now (rows .entry)) (now (rows .exit)) r ⌝ }
     ensures trusted { λ r. ⌜ TrustedRows sheet (now (rows .exit)) r ⌝ }
+    ensures numbered { λ r. ⌜ Gives r (result (passage.passage sheet (length (now (rows .entry))) .outcome)) (refusedStep (passage.passage sheet (length (now (rows .entry))) .outcome)) ⌝ }
 {
     let refused = verdict(sheet);
     if let Outcome::Refused(_, _) = refused {

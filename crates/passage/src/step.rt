@@ -1,6 +1,7 @@
 // One step of a passage given as numbers, from any values and radii.
+ghost use mathlib.Core.Path.{_≡_};
 ghost use Rattle.coefficients.specs.Layout.{ballsIn};
-ghost use Rattle.taylor.specs.Step.{StepIs};
+ghost use Rattle.taylor.specs.Step.{answered, Numbered};
 ghost use Rattle.passage.specs.Promise.{stepOf};
 use crate::layout::terms_of;
 use model::Outcome;
@@ -14,7 +15,8 @@ use taylor::take_step;
 // One step of the sheet from `start`. A sheet that is refused by 3 or 4 gives that refusal, and a refused step leaves the
 // values and radii that it started from.
 pub fn step(sheet: Sheet, start: Balls) -> Stepped
-    ensures { λ r. ⌜ StepIs (sheet .n) start (stepOf sheet (ballsIn (sheet .n) (start .values) (start .radii))) r ⌝ }
+    ensures whole { λ r. ⌜ r ≡ answered start (stepOf sheet (ballsIn (sheet .n) (start .values) (start .radii))) ⌝ }
+    ensures numbered { λ r. ⌜ Numbered (r .advance) (stepOf sheet (ballsIn (sheet .n) (start .values) (start .radii))) ⌝ }
 {
     let refused = verdict(sheet);
     if let Outcome::Refused(refusal, _) = refused {

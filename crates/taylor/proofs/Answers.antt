@@ -2,7 +2,7 @@
 use Prim.Native.Nat.{ℕ, zero, suc, _≤_, _<_}
 use mathlib.Core.Bool.{Bool, true, false, _&&_}
 use mathlib.Core.List.{List}
-use mathlib.Core.Path.{_≡_, refl, ap, ap₂}
+use mathlib.Core.Path.{_≡_, refl, sym, ap, ap₂, _∙_}
 use native.Mathlib.Nat.{max-le}
 use native.Mathlib.Omega.{arith}
 use borrow.Author.Tests.{le-leb, lt-leb}
@@ -12,17 +12,22 @@ use lib.ListN.{length, getD}
 use Rattle.model.specs.Range.{every}
 use Rattle.model.specs.Sheet.{scale, most}
 use Rattle.model.specs.Step.{no-ball, reach, greatest, ratio, stepRow}
-use Rattle.model.specs.Passage.{question, small, slow, most-ratio, tolerable, tolerated, advance}
+use Rattle.model.specs.Passage as passage
+use Rattle.model.specs.Passage.{question, small, slow, most-ratio, tolerable, tolerated}
 use Rattle.model.specs.declared.Ball.{Ball}
 use Rattle.model.specs.declared.Refusal.the-variants.{TooLarge, TooFast, Intolerable}
 use Rattle.model.specs.declared.Term.{Term}
 use Rattle.model.proofs.Ranges.{below, largest-bounded}
-use Rattle.model.proofs.Bounds.{TermsInBounds, InBounds, scale-le-greatest}
+use Rattle.model.specs.Bounds.{TermsInBounds, InBounds}
+use Rattle.model.proofs.Invariant.{scale-le-greatest}
 use Rattle.coefficients.specs.Layout.{ballIn, ballsIn}
-use Rattle.taylor.specs.Step.{StepIs}
+use Rattle.taylor.specs.Step.{laidOut, rowLaidOut, answered}
 use Rattle.taylor.specs.declared.step.Balls.{Balls}
+use Rattle.taylor.specs.declared.step.Row.{Row}
 use Rattle.taylor.specs.declared.step.Advance.the-variants.{Moves, Stops}
+use Rattle.taylor.specs.declared.step.Stepped.{Stepped}
 use Rattle.taylor.proofs.Balls.{length-balls, getD-balls, greatest-is}
+use Rattle.taylor.proofs.LaidOut.{balls-laid-out, length-row}
 
 every-equal : (n : ℕ) (f g : ℕ → Bool) → ((i : ℕ) → i < n → f i ≡ g i) → every n f ≡ every n g
 unfolding every
@@ -41,34 +46,38 @@ tolerable-is : (tol n : ℕ) (values : List ℤ) (radii : List ℕ) → tolerabl
 unfolding tolerable ballIn
 tolerable-is tol n values radii = each-ball (λ ball. leb (ball .radius) tol) n values radii
 
+tolerable-laid-out : (tol n : ℕ) (balls : List Ball) → length balls ≡ n → tolerable tol balls ≡ every n (λ i. leb (getD (laidOut balls .radii) i 0) tol)
+tolerable-laid-out tol n balls len =
+    ap (tolerable tol) (sym (balls-laid-out n balls len)) ∙ tolerable-is tol n (laidOut balls .values) (laidOut balls .radii)
+
 slow-is : (terms : List Term) (H : ℤ) (n : ℕ) (values : List ℤ) (radii : List ℕ) → slow terms H (ballsIn n values radii) ≡ leb (ratio terms H n (greatest (ballsIn n values radii))) most-ratio
 unfolding slow
 slow-is terms H n values radii = ap (λ (m : ℕ). leb (ratio terms H m (greatest (ballsIn n values radii))) most-ratio) (length-balls n values radii)
 
 module _ (terms : List Term) (H : ℤ) (limit tol n : ℕ) (start : Balls) where
-  pub too-large : every n (λ i. leb (reach (ballIn (start .values) (start .radii) i)) most) ≡ false → StepIs n start (advance terms H limit tol (ballsIn n (start .values) (start .radii))) (record { advance = Stops TooLarge; balls = start })
-  unfolding advance question StepIs
-  too-large h = rw (small-is n (start .values) (start .radii), h) (refl, refl)
+  pub too-large : every n (λ i. leb (reach (ballIn (start .values) (start .radii) i)) most) ≡ false → record { advance = Stops TooLarge; balls = start } ≡ answered start (passage.advance terms H limit tol (ballsIn n (start .values) (start .radii)))
+  unfolding passage.advance question answered
+  too-large h = rw (small-is n (start .values) (start .radii), h)
 
   module _ (fits : every n (λ i. leb (reach (ballIn (start .values) (start .radii) i)) most) ≡ true) (q : ℕ) (e : q ≡ ratio terms H n (greatest (ballsIn n (start .values) (start .radii)))) where
-    pub too-fast : most-ratio < q → StepIs n start (advance terms H limit tol (ballsIn n (start .values) (start .radii))) (record { advance = Stops TooFast; balls = start })
-    unfolding advance question StepIs
+    pub too-fast : most-ratio < q → record { advance = Stops TooFast; balls = start } ≡ answered start (passage.advance terms H limit tol (ballsIn n (start .values) (start .radii)))
+    unfolding passage.advance question answered
     too-fast h =
-        rw (small-is n (start .values) (start .radii), fits, slow-is terms H n (start .values) (start .radii), ← e, lt-leb q most-ratio h) (refl, refl)
+        rw (small-is n (start .values) (start .radii), fits, slow-is terms H n (start .values) (start .radii), ← e, lt-leb q most-ratio h)
 
-    module _ (h : q ≤ most-ratio) (d : ℕ) (balls : Balls) (row : record { degree = d; balls = ballsIn n (balls .values) (balls .radii) } ≡ stepRow terms H limit (ballsIn n (start .values) (start .radii))) where
-      goes-on : advance terms H limit tol (ballsIn n (start .values) (start .radii)) ≡ question (every n (λ i. leb (getD (balls .radii) i 0) tol)) Intolerable (Rattle.model.specs.Passage.moves (record { degree = d; balls = ballsIn n (balls .values) (balls .radii) }))
-      unfolding advance question tolerated
+    module _ (h : q ≤ most-ratio) (row : Row) (is-row : row ≡ rowLaidOut (stepRow terms H limit (ballsIn n (start .values) (start .radii)))) where
+      goes-on : passage.advance terms H limit tol (ballsIn n (start .values) (start .radii)) ≡ question (every n (λ i. leb (getD (row .balls .radii) i 0) tol)) Intolerable (passage.moves (stepRow terms H limit (ballsIn n (start .values) (start .radii))))
+      unfolding passage.advance question tolerated rowLaidOut
       goes-on =
-          rw (small-is n (start .values) (start .radii), fits, slow-is terms H n (start .values) (start .radii), ← e, le-leb q most-ratio h, ← row, tolerable-is tol n (balls .values) (balls .radii))
+          rw (small-is n (start .values) (start .radii), fits, slow-is terms H n (start .values) (start .radii), ← e, le-leb q most-ratio h, is-row, tolerable-laid-out tol n (stepRow terms H limit (ballsIn n (start .values) (start .radii)) .balls) (length-row terms H limit (ballsIn n (start .values) (start .radii)) ∙ length-balls n (start .values) (start .radii)))
 
-      pub intolerable : every n (λ i. leb (getD (balls .radii) i 0) tol) ≡ false → StepIs n start (advance terms H limit tol (ballsIn n (start .values) (start .radii))) (record { advance = Stops Intolerable; balls = start })
-      unfolding question StepIs
-      intolerable f = rw (goes-on, f) (refl, refl)
+      pub intolerable : every n (λ i. leb (getD (row .balls .radii) i 0) tol) ≡ false → record { advance = Stops Intolerable; balls = start } ≡ answered start (passage.advance terms H limit tol (ballsIn n (start .values) (start .radii)))
+      unfolding question answered
+      intolerable f = rw (goes-on, f)
 
-      pub moved : every n (λ i. leb (getD (balls .radii) i 0) tol) ≡ true → StepIs n start (advance terms H limit tol (ballsIn n (start .values) (start .radii))) (record { advance = Moves d; balls = balls })
-      unfolding question StepIs
-      moved f = rw (goes-on, f) (refl, refl)
+      pub moved : every n (λ i. leb (getD (row .balls .radii) i 0) tol) ≡ true → record { advance = Moves (row .degree); balls = row .balls } ≡ answered start (passage.advance terms H limit tol (ballsIn n (start .values) (start .radii)))
+      unfolding question answered rowLaidOut
+      moved f = rw (goes-on, f, is-row)
 
 -- ---- what questions 4 and 5, answered yes, give the calls after them
 

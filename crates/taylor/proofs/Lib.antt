@@ -1,4 +1,5 @@
 mod Balls
 mod Tests
+pub mod LaidOut
 mod StepRow
 mod Answers

@@ -10,6 +10,8 @@ use Rattle.model.specs.declared.Ball.{Ball}
 use Rattle.model.specs.declared.Term.{Term}
 use Rattle.model.proofs.Ranges.{sum-equal, sumℤ-equal, tabulate-equal}
 use Rattle.coefficients.specs.Layout.{quantities, ballIn, ballsIn, ballAt, tableIn, startIn, Filled}
+use Rattle.taylor.specs.Step.{laidOut, rowLaidOut}
+use Rattle.taylor.specs.declared.step.Balls.{Balls}
 use Rattle.taylor.proofs.Balls.{length-balls}
 use Rattle.coefficients.proofs.Filled.{coefficient-filled}
 use Rattle.coefficients.proofs.Places.{ball-equal}
@@ -32,11 +34,11 @@ module _ {terms : List Term} {H : ℤ} {n d : ℕ} {values : List ℤ} {reaches 
       tabulate-equal n _ _ (λ i l. new-ball-equal _ _ d tail i (λ k h. coefficient-filled filled room k h i ∙ ap (λ (start : List Ball). coefficient (coefficientsTo terms H start d) k i) e))
 
   -- the row of the table is the row of the step
-  pub row-is : (limit : ℕ) (start : List ℤ) (radii : List ℕ) {tail : ℕ} {row : List Ball} → startIn n values reaches ≡ ballsIn n start radii →
+  pub row-is : (limit : ℕ) (start : List ℤ) (radii : List ℕ) {tail : ℕ} {row : Balls} → startIn n values reaches ≡ ballsIn n start radii →
       d ≡ degree (greatest (ballsIn n start radii)) (ratio terms H n (greatest (ballsIn n start radii))) limit →
       tail ≡ tailAt (greatest (ballsIn n start radii)) (ratio terms H n (greatest (ballsIn n start radii))) d →
-      row ≡ tabulate n (newBall (tableIn d values reaches) d tail) →
-      record { degree = d; balls = row } ≡ stepRow terms H limit (ballsIn n start radii)
-  unfolding stepRow newRow
+      row ≡ laidOut (tabulate n (newBall (tableIn d values reaches) d tail)) →
+      record { degree = d; balls = row } ≡ rowLaidOut (stepRow terms H limit (ballsIn n start radii))
+  unfolding stepRow newRow rowLaidOut
   row-is limit start radii {tail} e hd ht hr =
       rw (length-balls n start radii, ← hd, ← ht, hr, new-balls (ballsIn n start radii) tail e)

@@ -7,9 +7,9 @@ ghost use Rattle.model.specs.Range.{every};
 ghost use Rattle.model.specs.Sheet.{most};
 ghost use Rattle.model.specs.Step as rule;
 ghost use Rattle.model.specs.Passage as passage;
-ghost use Rattle.model.proofs.Bounds.{TermsInBounds, InBounds};
+ghost use Rattle.model.specs.Bounds.{TermsInBounds, InBounds};
 ghost use Rattle.coefficients.specs.Layout.{quantities, ballIn, ballsIn, termsIn, Numbered};
-ghost use Rattle.taylor.specs.Step.{StepIs};
+ghost use Rattle.taylor.specs.Step.{rowLaidOut, answered};
 use crate::degree::truncate;
 use crate::ratio::greatest;
 use crate::ratio::ratio;
@@ -105,7 +105,7 @@ fn row_of(
     requires { ⌜ greatest ≡ rule.greatest (ballsIn n (now values) (now radii)) ⌝ }
     requires { ⌜ ratio ≡ rule.ratio (termsIn terms (now to) (now coef) (now first) (now second)) step n greatest ⌝ }
     requires { ⌜ (n ≤ quantities) × (terms ≤ 32) × (2 ≤ limit) × (limit ≤ 2 ^ 32) ⌝ }
-    ensures { λ r. ⌜ record { degree = r .degree; balls = ballsIn n (r .balls .values) (r .balls .radii) } ≡ rule.stepRow (termsIn terms (now (to .entry)) (now (coef .entry)) (now (first .entry)) (now (second .entry))) step limit (ballsIn n (now (values .entry)) (now (radii .entry))) ⌝ }
+    ensures { λ r. ⌜ r ≡ rowLaidOut (rule.stepRow (termsIn terms (now (to .entry)) (now (coef .entry)) (now (first .entry)) (now (second .entry))) step limit (ballsIn n (now (values .entry)) (now (radii .entry)))) ⌝ }
 {
     let cut = truncate(greatest, ratio, limit);
     let degree = cut.degree;
@@ -160,7 +160,7 @@ pub fn take_step(
     requires { ⌜ TermsInBounds (termsIn terms (now to) (now coef) (now first) (now second)) step n ⌝ }
     requires { ⌜ (n ≤ quantities) × (terms ≤ 32) ⌝ }
     requires { ⌜ (2 ≤ limit) × (limit ≤ 2 ^ 32) ⌝ }
-    ensures { λ r. ⌜ StepIs n start (passage.advance (termsIn terms (now (to .entry)) (now (coef .entry)) (now (first .entry)) (now (second .entry))) step limit tol (ballsIn n (start .values) (start .radii))) r ⌝ }
+    ensures { λ r. ⌜ r ≡ answered start (passage.advance (termsIn terms (now (to .entry)) (now (coef .entry)) (now (first .entry)) (now (second .entry))) step limit tol (ballsIn n (start .values) (start .radii))) ⌝ }
 {
     let values = start.values;
     let radii = start.radii;

@@ -53,6 +53,30 @@ module _ (a b : ℤ) {r t : ℕ} (covered : (natAbs a ≤ r) × (natAbs b ≤ t)
       value-fits =
           rw value-is (sfits-abs (omega (arith, abs-add (sum .value) (near (a *ℤ b) scale), rounded-small, sum-small)))
 
+-- what the two calls give, of the numbers themselves and not of their bits
+error-is : (c : tie.After-magnitude) →
+    let s = c .before .before in
+    c .before .product .result - c .magnitude .result ≡ s .args .m * s .args .n - natAbs (s .args .a *ℤ s .args .b)
+error-is c =
+    let s = c .before .before in
+    ap₂ _-_ (c .before .product .ensures) (c .magnitude .ensures ∙ ap natAbs (signed-kept (s .args .a) (s .args .b) (s .pre .0) (s .pre .1 .0) (s .fits .a) (s .fits .b)))
+
+radius-is : (c : tie.After-up-and-one) →
+    let s = c .before .before .before .before .before .before in
+    c .up-and-one .result ≡ up (s .args .m * s .args .n - natAbs (s .args .a *ℤ s .args .b)) scale + 1
+unfolding scale
+radius-is c =
+    c .up-and-one .ensures ∙ ap (λ (n : ℕ). up n scale + 1) (error-is (c .before .before .before .before))
+
+returns : tie.Need-returns
+unfolding scale
+returns c =
+    let s = c .before .before .before .before .before .before .before in
+    let n = c .before .before .before .before .near in (
+      toZ-ofZ (value-fits (s .args .a) (s .args .b) (s .pre .0) (s .pre .1 .0) (s .fits .a) (s .fits .b) (s .args .sum) (s .pre .1 .1) (n .ensures)) ∙ value-is (s .args .a) (s .args .b) (s .pre .0) (s .pre .1 .0) (s .fits .a) (s .fits .b) (s .args .sum) (s .pre .1 .1) (n .ensures),
+      ap (λ (u : ℕ). s .args .sum .radius + u) (radius-is (c .before)),
+    )
+
 mul-signed : tie.Need-mul-signed
 mul-signed c = signed-fits (c .args .a) (c .args .b) (c .pre .0) (c .pre .1 .0) (c .fits .a) (c .fits .b)
 
@@ -62,14 +86,6 @@ product-requires c κs = search needs
 
 magnitude-requires : tie.Need-magnitude-requires
 magnitude-requires c κs = search needs
-
--- what the two calls give, of the numbers themselves and not of their bits
-error-is : (c : tie.After-magnitude) →
-    let s = c .before .before in
-    c .before .product .result - c .magnitude .result ≡ s .args .m * s .args .n - natAbs (s .args .a *ℤ s .args .b)
-error-is c =
-    let s = c .before .before in
-    ap₂ _-_ (c .before .product .ensures) (c .magnitude .ensures ∙ ap natAbs (signed-kept (s .args .a) (s .args .b) (s .pre .0) (s .pre .1 .0) (s .fits .a) (s .fits .b)))
 
 sub-error : tie.Need-sub-error
 sub-error c =
@@ -90,27 +106,11 @@ up-and-one-requires c κs =
     let s = c .before .before .before .before .before in
     (omega arith, omega (arith, error-is (c .before .before .before), reaches-fit (s .pre .1 .0 .0) (s .pre .1 .0 .1)))
 
-radius-is : (c : tie.After-up-and-one) →
-    let s = c .before .before .before .before .before .before in
-    c .up-and-one .result ≡ up (s .args .m * s .args .n - natAbs (s .args .a *ℤ s .args .b)) scale + 1
-unfolding scale
-radius-is c =
-    c .up-and-one .ensures ∙ ap (λ (n : ℕ). up n scale + 1) (error-is (c .before .before .before .before))
-
 add-t9 : tie.Need-add-t9
 unfolding reach
 add-t9 c =
     let s = c .before .before .before .before .before .before .before in
     omega (arith, error-small (s .args .a) (s .args .b) (s .pre .0) (s .pre .1 .0) (natAbs (s .args .a *ℤ s .args .b)) (radius-is (c .before)), s .pre .1 .1)
-
-returns : tie.Need-returns
-unfolding scale
-returns c =
-    let s = c .before .before .before .before .before .before .before in
-    let n = c .before .before .before .before .near in (
-      toZ-ofZ (value-fits (s .args .a) (s .args .b) (s .pre .0) (s .pre .1 .0) (s .fits .a) (s .fits .b) (s .args .sum) (s .pre .1 .1) (n .ensures)) ∙ value-is (s .args .a) (s .args .b) (s .pre .0) (s .pre .1 .0) (s .fits .a) (s .fits .b) (s .args .sum) (s .pre .1 .1) (n .ensures),
-      ap (λ (u : ℕ). s .args .sum .radius + u) (radius-is (c .before)),
-    )
 
 pub with-product-spec : {M : Type 1} → statement M
 with-product-spec =

@@ -10,7 +10,7 @@ use Rattle.model.specs.declared.Sheet.{Sheet}
 use Rattle.model.specs.declared.Term.{Term}
 use Rattle.model.specs.Sheet.{sheetVerdict, refuses}
 use Rattle.model.specs.Passage.{placesNeeded, width}
-use Rattle.model.proofs.Bounds.{TermsInBounds}
+use Rattle.model.specs.Bounds.{TermsInBounds}
 use Rattle.model.proofs.SheetBounds.{bounds-of-sheet}
 use Rattle.sheet.specs.Verdicts.{outcome}
 use Rattle.sheet.proofs.Verdicts.{refuses-as}
@@ -42,20 +42,20 @@ returns : tie.Need-returns
 returns c =
     let a = c .before .before .before in
     let verdict = c .before .before .verdict in
-    let refused = refuses-as (sheetVerdict (a .args .sheet)) (verdict .ensures) (c .enum-told .given .1) in
-    promised (a .args .sheet) (verdict-kept (a .args .sheet) (a .args .rows .now) (verdict .ensures) refused)
+    let refused = refuses-as (sheetVerdict (a .args .sheet)) (verdict .ensures .0) (c .enum-told .given .1) in
+    promised (a .args .sheet) (verdict-kept (a .args .sheet) (a .args .rows .now) (verdict .ensures .0) refused)
 
 enum-told-2 : tie.Need-enum-told-2
 enum-told-2 c = search needs
 
 width-requires : tie.Need-width-requires
 unfolding quantities
-width-requires c κs = passed (c .before .before .before .args .sheet) (c .before .before .verdict .ensures) (c .enum-told2 .given .1) .0 .n-high
+width-requires c κs = passed (c .before .before .before .args .sheet) (c .before .before .verdict .ensures .0) (c .enum-told2 .given .1) .0 .n-high
 
 mul-if1 : tie.Need-mul-if1
 mul-if1 c =
     let sheet = c .before .before .before .before .args .sheet in
-    let counts = passed sheet (c .before .before .before .verdict .ensures) (c .before .enum-told2 .given .1) .0 in
+    let counts = passed sheet (c .before .before .before .verdict .ensures .0) (c .before .enum-told2 .given .1) .0 in
     rw (c .width .ensures) (omega (arith, rows-fit (sheet .steps) (sheet .n) (counts .steps-high) (counts .n-high)))
 
 returns-2 : tie.Need-returns-2
@@ -63,18 +63,18 @@ unfolding placesNeeded
 returns-2 c =
     let told = c .before .before in
     let a = told .before .before .before in
-    let p = passed (a .args .sheet) (told .before .before .verdict .ensures) (told .enum-told2 .given .1) .1 in
+    let p = passed (a .args .sheet) (told .before .before .verdict .ensures .0) (told .enum-told2 .given .1) .1 in
     promised (a .args .sheet) (kept-too-few-places (a .args .sheet) (a .args .rows .now) p (rw (c .before .width .ensures) at (c .if1 .taken)))
 
 terms-of-requires : tie.Need-terms-of-requires
 terms-of-requires c κs =
     let told = c .before .before in
-    passed (told .before .before .before .args .sheet) (told .before .before .verdict .ensures) (told .enum-told2 .given .1) .0 .terms-high
+    passed (told .before .before .before .args .sheet) (told .before .before .verdict .ensures .0) (told .enum-told2 .given .1) .0 .terms-high
 
 starts-of-requires : tie.Need-starts-of-requires
 starts-of-requires c κs =
     let told = c .before .before .before .before .before .before .before in
-    passed (told .before .before .before .args .sheet) (told .before .before .verdict .ensures) (told .enum-told2 .given .1) .0 .n-high
+    passed (told .before .before .before .args .sheet) (told .before .before .verdict .ensures .0) (told .enum-told2 .given .1) .0 .n-high
 
 run-steps-requires : tie.Need-run-steps-requires
 unfolding quantities
@@ -83,7 +83,7 @@ run-steps-requires c κs =
     let room = laid .before in
     let told = room .before .before in
     let sheet = told .before .before .before .args .sheet in
-    let p = passed sheet (told .before .before .verdict .ensures) (told .enum-told2 .given .1) in
+    let p = passed sheet (told .before .before .verdict .ensures .0) (told .enum-told2 .given .1) in
     (handed (sheet .n) (laid .terms-of .ensures) (step-is-its-bits sheet (p .0)) (bounds-of-sheet sheet (p .1)), ((p .0 .n-high, p .0 .terms-high, p .0 .steps-high), ((p .0 .tail-low, omega (arith, p .0 .tail-high), omega (arith, p .0 .tol-high)), rw (room .before .width .ensures) at (room .if1 .left))))
 
 same-length : tie.Need-same-length
@@ -97,7 +97,7 @@ returns-3 c =
     let room = laid .before in
     let told = room .before .before in
     let a = told .before .before .before in
-    let p = passed (a .args .sheet) (told .before .before .verdict .ensures) (told .enum-told2 .given .1) in
+    let p = passed (a .args .sheet) (told .before .before .verdict .ensures .0) (told .enum-told2 .given .1) in
     let finished = rw (step-is-its-bits (a .args .sheet) (p .0), laid .terms-of .ensures, started .starts-of .ensures) at (c .before .run-steps .ensures) in
     promised (a .args .sheet) (kept-run (a .args .sheet) (a .args .rows .now) (p .1) (rw (room .before .width .ensures) at (room .if1 .left)) finished)
 

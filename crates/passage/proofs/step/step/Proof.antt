@@ -2,12 +2,11 @@
 use Rattle.model.specs.Sheet.{sheetVerdict}
 use Rattle.model.proofs.SheetBounds.{bounds-of-sheet}
 use native.Mathlib.Omega.{arith}
-use mathlib.Core.Path.{refl}
 use Rattle.sheet.proofs.Verdicts.{refuses-as}
 use Rattle.coefficients.specs.Layout.{quantities}
-use Rattle.taylor.specs.Step.{StepIs}
+use Rattle.taylor.specs.Step.{answered}
 use Rattle.passage.proofs.Counts.{step-is-its-bits, passed}
-use Rattle.passage.proofs.Steps.{step-of-refused, step-of-passing}
+use Rattle.passage.proofs.Steps.{with-its-number, step-of-refused, step-of-passing}
 use borrow.Author.Needs.{needs}
 use Rattle.passage.proofs.step.step.Statement.{statement}
 use Rattle.passage.proofs.step.step.Tie as tie
@@ -19,17 +18,17 @@ enum-known-refused : tie.Need-enum-known-refused
 enum-known-refused c = search needs
 
 returns : tie.Need-returns
-unfolding StepIs
+unfolding answered
 returns c =
     let a = c .before .before .before .before in
-    let refused = refuses-as (sheetVerdict (a .args .sheet)) (c .before .before .before .verdict .ensures) (c .before .refused .given .1) in
-    rw (step-of-refused (a .args .sheet) _ refused) (refl, refl)
+    let refused = refuses-as (sheetVerdict (a .args .sheet)) (c .before .before .before .verdict .ensures .0) (c .before .refused .given .1) in
+    with-its-number (a .args .start) _ (rw (step-of-refused (a .args .sheet) _ refused))
 
 enum-told : tie.Need-enum-told
 enum-told c = search needs
 
 terms-of-requires : tie.Need-terms-of-requires
-terms-of-requires c κs = passed (c .before .before .before .args .sheet) (c .before .before .verdict .ensures) (c .enum-told .given .1) .0 .terms-high
+terms-of-requires c κs = passed (c .before .before .before .args .sheet) (c .before .before .verdict .ensures .0) (c .enum-told .given .1) .0 .terms-high
 
 take-step-requires : tie.Need-take-step-requires
 unfolding quantities
@@ -37,7 +36,7 @@ take-step-requires c κs =
     let laid = c .before .before .before .before .before .before .before .before .before in
     let told = laid .before in
     let sheet = told .before .before .before .args .sheet in
-    let p = passed sheet (told .before .before .verdict .ensures) (told .enum-told .given .1) in
+    let p = passed sheet (told .before .before .verdict .ensures .0) (told .enum-told .given .1) in
     (rw (step-is-its-bits sheet (p .0), laid .terms-of .ensures) (bounds-of-sheet sheet (p .1)), ((p .0 .n-high, p .0 .terms-high), (p .0 .tail-low, omega (arith, p .0 .tail-high))))
 
 returns-2 : tie.Need-returns-2
@@ -45,8 +44,8 @@ returns-2 c =
     let laid = c .before .before .before .before .before .before .before .before .before .before in
     let told = laid .before in
     let sheet = told .before .before .before .args .sheet in
-    let p = passed sheet (told .before .before .verdict .ensures) (told .enum-told .given .1) in
-    rw (step-of-passing sheet _ (p .1)) (rw (step-is-its-bits sheet (p .0), laid .terms-of .ensures) at (c .take-step .ensures))
+    let p = passed sheet (told .before .before .verdict .ensures .0) (told .enum-told .given .1) in
+    with-its-number (told .before .before .before .args .start) _ (rw (step-of-passing sheet _ (p .1)) (rw (step-is-its-bits sheet (p .0), laid .terms-of .ensures) at (c .take-step .ensures)))
 
 pub step-spec : {M : Type 1} → statement M
 step-spec =

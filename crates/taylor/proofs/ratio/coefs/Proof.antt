@@ -16,7 +16,8 @@ use Rattle.model.specs.Step as rule
 use Rattle.model.specs.declared.Term.{Term}
 use Rattle.model.proofs.Ranges.{sum-suc}
 use Rattle.model.proofs.RatioNumbers.{coefs-fit}
-use Rattle.coefficients.specs.Layout.{termAt, termsIn, total, most-total}
+use Rattle.model.specs.Bounds.{total, most-total}
+use Rattle.coefficients.specs.Layout.{termAt, termsIn}
 use Rattle.coefficients.proofs.Terms.{length-terms, getD-terms}
 use borrow.Author.Needs.{needs}
 use Rattle.taylor.proofs.ratio.coefs.Statement.{statement}
@@ -28,7 +29,7 @@ partial target count terms j =
     range.sum j (λ j. rule.brings target (getD terms j no-term) (rule.coefOf count (getD terms j no-term)))
 
 partial-fits : (target count : ℕ) (terms : List Term) → total terms ≤ most-total → (j : ℕ) → j ≤ length terms → partial target count terms j ≤ 2 ^ 33
-unfolding partial total most-total
+unfolding partial
 partial-fits target count terms h j l = coefs-fit terms h target count j l
 
 module _ (target count terms : ℕ) (to : List ℕ) (coef : List ℤ) (first second : List ℕ) where

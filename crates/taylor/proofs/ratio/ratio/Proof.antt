@@ -10,7 +10,6 @@ use Rattle.model.specs.Sheet.{scale}
 use Rattle.model.specs.Step as rule
 use Rattle.model.proofs.RatioNumbers.{step-size-fits}
 use Rattle.coefficients.specs.Layout.{termsIn}
-use Rattle.coefficients.proofs.Terms.{total-bounded}
 use borrow.Author.Needs.{needs}
 use Rattle.taylor.proofs.ratio.ratio.Statement.{statement}
 use Rattle.taylor.proofs.ratio.ratio.Tie as tie
@@ -26,7 +25,7 @@ mul-up c =
     let s = c .before .before in
     let a = s .args in
     let product = ap₂ _*_ (c .before .largest-size .ensures) (rw (toZ-ofZ (s .fits .step)) at (c .magnitude .ensures)) in
-    omega (arith, product, step-size-fits (termsIn (a .terms) (a .to .now) (a .coef .now) (a .first .now) (a .second .now)) (total-bounded _ (s .pre .1 .1 .0)) (s .pre .1 .1 .1 .0 .0) (s .pre .1 .1 .1 .0 .1) (a .step) (a .n) (s .pre .1 .1 .1 .1))
+    omega (arith, product, step-size-fits (termsIn (a .terms) (a .to .now) (a .coef .now) (a .first .now) (a .second .now)) (s .pre .1 .1 .0) (s .pre .1 .1 .1 .0 .0) (s .pre .1 .1 .1 .0 .1) (a .step) (a .n) (s .pre .1 .1 .1 .1))
 
 up-requires : tie.Need-up-requires
 up-requires c κs = search needs

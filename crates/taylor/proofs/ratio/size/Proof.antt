@@ -10,7 +10,6 @@ use Rattle.model.specs.Step as rule
 use Rattle.model.specs.declared.Term.{Term}
 use Rattle.model.proofs.RatioNumbers.{coefs-le, greatest-coefs-fit, size-fits}
 use Rattle.coefficients.specs.Layout.{termsIn}
-use Rattle.coefficients.proofs.Terms.{total-bounded}
 use borrow.Author.Needs.{needs}
 use Rattle.taylor.proofs.ratio.size.Statement.{statement}
 use Rattle.taylor.proofs.ratio.size.Tie as tie
@@ -38,7 +37,7 @@ mul-up : tie.Need-mul-up
 mul-up c =
     let s = c .before .before .before in
     let a = s .args in
-    omega (arith, c .before .before .coefs .ensures, coefs-le (termsIn (a .terms) (a .to .now) (a .coef .now) (a .first .now) (a .second .now)) (total-bounded _ (s .pre .1 .0)) (a .target) 0)
+    omega (arith, c .before .before .coefs .ensures, coefs-le (termsIn (a .terms) (a .to .now) (a .coef .now) (a .first .now) (a .second .now)) (s .pre .1 .0) (a .target) 0)
 
 up-requires : tie.Need-up-requires
 unfolding scale
@@ -49,13 +48,13 @@ unfolding rule.size scale
 add-result c =
     let s = c .before .before .before .before in
     let a = s .args in
-    omega (arith, ap (λ (z : ℕ). up (16777216 * z) (a .greatest)) (c .before .before .before .coefs .ensures), c .up .ensures, c .before .before .coefs2 .ensures, size-fits (termsIn (a .terms) (a .to .now) (a .coef .now) (a .first .now) (a .second .now)) (total-bounded _ (s .pre .1 .0)) (s .pre .1 .1 .0) (s .pre .1 .1 .1) (a .target))
+    omega (arith, ap (λ (z : ℕ). up (16777216 * z) (a .greatest)) (c .before .before .before .coefs .ensures), c .up .ensures, c .before .before .coefs2 .ensures, size-fits (termsIn (a .terms) (a .to .now) (a .coef .now) (a .first .now) (a .second .now)) (s .pre .1 .0) (s .pre .1 .1 .0) (s .pre .1 .1 .1) (a .target))
 
 mul-up-2 : tie.Need-mul-up-2
 mul-up-2 c =
     let s = c .before .before .before .before in
     let a = s .args in
-    omega (arith, ap (λ (z : ℕ). a .greatest * z) (c .before .coefs3 .ensures), greatest-coefs-fit (termsIn (a .terms) (a .to .now) (a .coef .now) (a .first .now) (a .second .now)) (total-bounded _ (s .pre .1 .0)) (s .pre .1 .1 .0) (s .pre .1 .1 .1) (a .target) 2)
+    omega (arith, ap (λ (z : ℕ). a .greatest * z) (c .before .coefs3 .ensures), greatest-coefs-fit (termsIn (a .terms) (a .to .now) (a .coef .now) (a .first .now) (a .second .now)) (s .pre .1 .0) (s .pre .1 .1 .0) (s .pre .1 .1 .1) (a .target) 2)
 
 up-requires-2 : tie.Need-up-requires-2
 up-requires-2 c κs = search needs
@@ -64,7 +63,7 @@ add-result-2 : tie.Need-add-result-2
 add-result-2 c =
     let s = c .before .before .before .before .before in
     let a = s .args in
-    omega (arith, size-is (termsIn (a .terms) (a .to .now) (a .coef .now) (a .first .now) (a .second .now)) (a .greatest) (a .target) (c .before .before .before .before .coefs .ensures) (c .before .before .before .coefs2 .ensures) (c .before .before .coefs3 .ensures) (c .before .up .ensures) (c .up2 .ensures), size-fits (termsIn (a .terms) (a .to .now) (a .coef .now) (a .first .now) (a .second .now)) (total-bounded _ (s .pre .1 .0)) (s .pre .1 .1 .0) (s .pre .1 .1 .1) (a .target))
+    omega (arith, size-is (termsIn (a .terms) (a .to .now) (a .coef .now) (a .first .now) (a .second .now)) (a .greatest) (a .target) (c .before .before .before .before .coefs .ensures) (c .before .before .before .coefs2 .ensures) (c .before .before .coefs3 .ensures) (c .before .up .ensures) (c .up2 .ensures), size-fits (termsIn (a .terms) (a .to .now) (a .coef .now) (a .first .now) (a .second .now)) (s .pre .1 .0) (s .pre .1 .1 .0) (s .pre .1 .1 .1) (a .target))
 
 pub size-spec : {M : Type 1} → statement M
 size-spec =

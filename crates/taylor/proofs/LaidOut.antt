@@ -1,0 +1,54 @@
+-- A row's balls in arrays with 0 past its quantities: storing them leaves them so, and they are read from there as they were. Assumes nothing.
+use Prim.Native.Nat.{ℕ, zero, suc, _-_, _≤_, _<_}
+use mathlib.Core.List.{List, map}
+use mathlib.Core.Path.{_≡_, refl, ap, _∙_}
+use native.Mathlib.Nat.{zero-add}
+use native.Mathlib.Numerals.{unary-clauses}
+use native.Mathlib.Omega.{arith}
+use lib.IntN.{ℤ, pos}
+use lib.ListN.{length, getD, drop, replicate, length-map, length-replicate, List·getD-append, List·getD-map}
+use lib.Seq.{sets, sets-eq}
+use Rattle.model.specs.Range.{tabulate}
+use Rattle.model.specs.Sheet.{padded}
+use Rattle.model.specs.Step.{no-ball, stepRow, newRow}
+use Rattle.model.specs.declared.Ball.{Ball}
+use Rattle.model.specs.declared.Term.{Term}
+use Rattle.model.proofs.Ranges.{length-tabulate, map-tabulate, tabulate-is}
+use Rattle.coefficients.specs.Layout.{quantities, ballIn, ballsIn}
+use Rattle.coefficients.proofs.Places.{ball-equal}
+use Rattle.taylor.specs.Step.{laidOut}
+
+module _ {A : Type 0} (last : A) where
+  drop-replicate : (k size : ℕ) → drop k (replicate size last) ≡ replicate (size - k) last
+  drop-replicate zero size = simp unary-clauses refl
+  drop-replicate (suc k) zero = let none : 0 - suc k ≡ 0 = omega arith in rw none
+  drop-replicate (suc k) (suc size) = simp unary-clauses (drop-replicate k size)
+
+  -- a list stored from the front of an array of one number is padded with that number
+  pub stored-padded : (size : ℕ) (xs : List A) → length xs ≤ size → sets (replicate size last) 0 xs ≡ padded size last xs
+  unfolding padded
+  stored-padded size xs h =
+      sets-eq xs (replicate size last) 0 (rw length-replicate (omega arith)) ∙ rw (zero-add (length xs), drop-replicate (length xs) size)
+
+-- the balls f 0, .., f (n - 1) stored in arrays of zeros
+pub stored-laid-out : (n : ℕ) (f : ℕ → Ball) → n ≤ quantities → {values : List ℤ} {radii : List ℕ} → values ≡ sets (replicate 8 (pos 0)) 0 (tabulate n (λ i. f i .value)) → radii ≡ sets (replicate 8 0) 0 (tabulate n (λ i. f i .radius)) → record { values = values; radii = radii } ≡ laidOut (tabulate n f)
+unfolding laidOut quantities
+stored-laid-out n f room v r =
+    rw (v, r, stored-padded (pos 0) 8 (tabulate n (λ i. f i .value)) (rw length-tabulate room), stored-padded 0 8 (tabulate n (λ i. f i .radius)) (rw length-tabulate room), map-tabulate n f (λ ball. ball .value), map-tabulate n f (λ ball. ball .radius))
+
+-- the first places of the arrays are the balls
+pub balls-laid-out : (n : ℕ) (balls : List Ball) → length balls ≡ n → ballsIn n (laidOut balls .values) (laidOut balls .radii) ≡ balls
+unfolding ballsIn
+balls-laid-out n balls len = tabulate-is n (ballIn (laidOut balls .values) (laidOut balls .radii)) no-ball balls len each
+  where
+    each : (i : ℕ) → i < n → ballIn (laidOut balls .values) (laidOut balls .radii) i ≡ getD balls i no-ball
+    each i h =
+        unfold laidOut ballIn padded no-ball in
+        ball-equal
+        (List·getD-append (map (λ ball. ball .value) balls) _ (pos 0) i (rw (length-map, len) h) ∙ List·getD-map (λ ball. ball .value) balls i no-ball)
+        (List·getD-append (map (λ ball. ball .radius) balls) _ 0 i (rw (length-map, len) h) ∙ List·getD-map (λ ball. ball .radius) balls i no-ball)
+
+-- a step's row has a ball for each that it started from
+pub length-row : (terms : List Term) (H : ℤ) (limit : ℕ) (balls : List Ball) → length (stepRow terms H limit balls .balls) ≡ length balls
+unfolding stepRow newRow
+length-row terms H limit balls = length-tabulate (length balls) _
