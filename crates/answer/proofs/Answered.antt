@@ -1,120 +1,183 @@
--- The answer with lent places: what each reading makes of it, and that with places enough it is document 01's. Assumes nothing.
-use Prim.Native.Nat.{ℕ, _-_, _*_, _≤_}
+-- What comes of a sheet's bytes with lent places: with places enough it is document 01's; its rows stand in the buffer and are trusted.
+-- Assumes nothing.
+use Prim.Native.Nat.{ℕ, suc, _-_, _*_, _≤_, _<_}
 use mathlib.Core.Bool.{Bool, true, false}
-use mathlib.Core.List.{List}
-use mathlib.Core.Path.{_≡_, refl, sym, ap, _∙_}
+use mathlib.Core.List.{List, [], _++_}
+use mathlib.Core.Logic.{⊎-elim}
+use mathlib.Core.Path.{_≡_, refl, sym, ap, subst, _∙_}
 use native.Mathlib.Omega.{arith}
-use native.Mathlib.Nat.{le-trans, mul-le-mul-right}
-use borrow.Author.Tests.{le-leb, leb-true}
+use native.Mathlib.Nat.{le-trans, le-refl, mul-le-mul, mul-le-mul-right}
+use borrow.Author.Tests.{leb-true, leb-false}
 use lib.Dec.{leb}
 use lib.IntN.{ℤ}
-use lib.ListN.{length}
+use lib.ListN.{length, take}
+use lib.Seq.{take-all, length-take-le, take-take}
 use Rattle.model.specs.Range.{tabulate}
-use Rattle.model.specs.Answer.{answer, outcomeText, rowsText, runText}
-use Rattle.model.specs.Passage.{passage, run, refused, written, width, placesNeeded, rowsIn, rowsWritten}
-use Rattle.model.specs.Reading.{readSheet}
-use Rattle.model.specs.Sheet.{n-limits, steps-limits, Verdict, sheetVerdict, passes, refuses}
+use Rattle.model.specs.Answer.{answer, outcomeText, rowsText, runText, runOf}
+use Rattle.model.specs.Passage.{Run, passage, run, refused, places, written, width, placesNeeded, rowsIn, rowsWritten}
+use Rattle.model.specs.Reading.{most-bytes, readSheet}
+use Rattle.model.specs.Sheet.{n-limits, steps-limits, Verdict, sheetVerdict, passes, refuses, no-sheet, inRange, ask, within, from_to_, _then_}
 use Rattle.model.specs.declared.Outcome.{Outcome}
 use Rattle.model.specs.declared.Outcome.the-variants.{Accepted, Refused}
 use Rattle.model.specs.declared.Refusal.{Refusal}
-use Rattle.model.specs.declared.Refusal.the-variants.{TooFewPlaces}
+use Rattle.model.specs.declared.Refusal.the-variants.{OutOfRange, TooFewPlaces}
 use Rattle.model.specs.declared.Reading.{Reading as ReadSheet}
 use Rattle.model.specs.declared.Sheet.{Sheet}
-use Rattle.model.proofs.Accepted.{accepted-is-acceptable}
-use Rattle.model.proofs.Passages.{Rows, rows-of-passage, rows-in-written, places-length, written-length}
+use Rattle.model.proofs.Readings.{accepted-is-acceptable, refused-is-zeros, read-from-front}
+use Rattle.model.proofs.Passages.{Rows, Wide, none, rows-of-passage, rows-in-written, places-length, written-length, passage-refused, passage-too-few-places, passage-runs}
+use Rattle.model.proofs.Trusted.{passage-trusted}
 use Rattle.model.proofs.Verdicts.{in-range, sheet-in-range}
-use Rattle.answer.specs.Answered.{answerLent, rowsAfter, rowsOf}
+use Rattle.answer.specs.declared.Ended.{Ended}
+use Rattle.answer.specs.Text.{Printed}
+use Rattle.answer.specs.Answered.{runLent, endedOf, Ran, TrustedOf, TrustedLent, TrustedText, FrontOf, AnswersAlike}
 
-module _ (sheet : List ℕ) where
-  module _ {r : Refusal} {step : ℕ} (e : readSheet sheet .outcome ≡ Refused r step) where
-    pub refused-text : (places : ℕ) → answerLent sheet places ≡ outcomeText (Refused r step)
-    unfolding answerLent
-    refused-text places = rw (e, answerLent)
-
-    pub refused-rows : (buffer : List ℤ) → rowsAfter sheet buffer ≡ buffer
-    unfolding rowsAfter
-    refused-rows buffer = rw (e, rowsAfter)
-
-  module _ (e : readSheet sheet .outcome ≡ Accepted) where
-    pub accepted-text : (places : ℕ) → answerLent sheet places ≡ runText (passage (readSheet sheet .sheet) places)
-    unfolding answerLent
-    accepted-text places = rw (e, answerLent)
-
-    pub accepted-rows : (buffer : List ℤ) → rowsAfter sheet buffer ≡ written (passage (readSheet sheet .sheet) (length buffer) .rows) buffer
-    unfolding rowsAfter
-    accepted-rows buffer = rw (e, rowsAfter)
-
--- with places enough no more is asked of them
-pub passage-with-room : (sheet : Sheet) (places : ℕ) → sheetVerdict sheet ≡ passes → placesNeeded sheet ≤ places → passage sheet places ≡ run sheet
-unfolding passage
-passage-with-room sheet places v h = rw (v, le-leb (placesNeeded sheet) places h, passage)
-
-pub enough-is-answer : (sheet : List ℕ) (places : ℕ) → (readSheet sheet .outcome ≡ Accepted → placesNeeded (readSheet sheet .sheet) ≤ places) → answerLent sheet places ≡ answer sheet
-unfolding answerLent answer
-enough-is-answer sheet places enough = go (readSheet sheet .outcome) refl
-  where
-    go : (outcome : Outcome) → readSheet sheet .outcome ≡ outcome → answerLent sheet places ≡ answer sheet
-    go Accepted e =
-        accepted-text sheet e places ∙ ap runText (passage-with-room (readSheet sheet .sheet) places (accepted-is-acceptable sheet e .verdict) (enough e)) ∙ sym (rw (e, answer))
-    go (Refused r step) e = refused-text sheet e places ∙ sym (rw (e, answer))
-
--- ---- the rows that a passage has written, in the buffer
-
-no-rows-fit : (r : Refusal) (places n : ℕ) → length (refused r 0 .rows) * width n ≤ places
+no-rows-fit : (r : Refusal) (lent n : ℕ) → length (refused r 0 .rows) * width n ≤ lent
 unfolding refused
-no-rows-fit r places n = omega arith
+no-rows-fit r lent n = omega arith
 
--- they have their places there, since refusal 5 comes first
-pub rows-fit : (sheet : Sheet) (places : ℕ) → length (passage sheet places .rows) * width (sheet .n) ≤ places
-rows-fit sheet places = judged (sheetVerdict sheet) (leb (placesNeeded sheet) places) refl refl
+rows-fit : (sheet : Sheet) (lent : ℕ) → length (passage sheet lent .rows) * width (sheet .n) ≤ lent
+rows-fit sheet lent = judged (sheetVerdict sheet) (leb (placesNeeded sheet) lent) refl refl
   where
-    judged : (v : Verdict) (room : Bool) → sheetVerdict sheet ≡ v → leb (placesNeeded sheet) places ≡ room → length (passage sheet places .rows) * width (sheet .n) ≤ places
-    judged (refuses r) room e l = unfold passage in rw (e, passage) (no-rows-fit r places (sheet .n))
-    judged passes false e l = unfold passage in rw (e, l, passage) (no-rows-fit TooFewPlaces places (sheet .n))
+    judged : (v : Verdict) (room : Bool) → sheetVerdict sheet ≡ v → leb (placesNeeded sheet) lent ≡ room → length (passage sheet lent .rows) * width (sheet .n) ≤ lent
+    judged (refuses r) room e l = rw (passage-refused sheet lent e) (no-rows-fit r lent (sheet .n))
+    judged passes false e l = rw (passage-too-few-places sheet lent e (leb-false (placesNeeded sheet) lent l)) (no-rows-fit TooFewPlaces lent (sheet .n))
     judged passes true e l =
-        let needed = leb-true (placesNeeded sheet) places l in
-        unfold placesNeeded in le-trans (mul-le-mul-right (width (sheet .n)) (rows-of-passage sheet places .fits)) needed
+        let needed = leb-true (placesNeeded sheet) lent l in
+        unfold placesNeeded in le-trans (mul-le-mul-right (width (sheet .n)) (rows-of-passage sheet lent .fits)) needed
 
--- read back from there, they are the passage's
-pub text-of-buffer : (sheet : Sheet) (buffer : List ℤ) {outcome : Outcome} {after : List ℤ} → outcome ≡ passage sheet (length buffer) .outcome → after ≡ written (passage sheet (length buffer) .rows) buffer →
-    runText (record { rows = rowsIn (sheet .n) (rowsWritten sheet outcome) after; outcome = outcome }) ≡ runText (passage sheet (length buffer))
-text-of-buffer sheet buffer e w = rw (e, w, ← (rows .count), rows-in-written (rows .wide) buffer)
+zeros-refused : sheetVerdict no-sheet ≡ refuses OutOfRange
+unfolding sheetVerdict no-sheet inRange ask within n-limits from_to_ _then_
+zeros-refused = refl
+
+counts-of-accepted : (sheet : List ℕ) → readSheet sheet .outcome ≡ Accepted → (readSheet sheet .sheet .n ≤ 8) × (readSheet sheet .sheet .steps ≤ 400)
+unfolding n-limits steps-limits
+counts-of-accepted sheet e =
+    let ranges = sheet-in-range (readSheet sheet .sheet) (accepted-is-acceptable sheet e .verdict) in
+    (in-range _ (ranges .n) .1, in-range _ (ranges .steps) .1)
+
+-- ---- by what the sheet is read as
+
+module _ (sheet : List ℕ) (lent : ℕ) where
+  lent-refused : {r : Refusal} {step : ℕ} → readSheet sheet .outcome ≡ Refused r step → runLent sheet lent ≡ refused r step
+  unfolding runLent
+  lent-refused e = rw (e, runLent)
+
+  lent-accepted : readSheet sheet .outcome ≡ Accepted → runLent sheet lent ≡ passage (readSheet sheet .sheet) lent
+  unfolding runLent
+  lent-accepted e = rw (e, runLent)
+
+  -- a refused sheet is that of zeros, whose passage has no rows either
+  rows-are : runLent sheet lent .rows ≡ passage (readSheet sheet .sheet) lent .rows
+  rows-are = go (readSheet sheet .outcome) refl
+    where
+      go : (outcome : Outcome) → readSheet sheet .outcome ≡ outcome → runLent sheet lent .rows ≡ passage (readSheet sheet .sheet) lent .rows
+      go Accepted e = ap (λ (run : Run). run .rows) (lent-accepted e)
+      go (Refused r step) e = unfold refused in rw (lent-refused e, refused-is-zeros sheet e .zeros, passage-refused no-sheet lent zeros-refused)
+
+  -- ---- the rows
+
+  wide : Wide (readSheet sheet .sheet .n) (runLent sheet lent .rows)
+  wide = rw rows-are (rows-of-passage (readSheet sheet .sheet) lent .wide)
+
+  -- they have their places, since refusal 5 comes first
+  fit : length (runLent sheet lent .rows) * width (readSheet sheet .sheet .n) ≤ lent
+  fit = rw rows-are (rows-fit (readSheet sheet .sheet) lent)
+
+  few : (readSheet sheet .sheet .n ≤ 8) × (length (runLent sheet lent .rows) ≤ 400)
+  few = go (readSheet sheet .outcome) refl
+    where
+      go : (outcome : Outcome) → readSheet sheet .outcome ≡ outcome → (readSheet sheet .sheet .n ≤ 8) × (length (runLent sheet lent .rows) ≤ 400)
+      go Accepted e =
+          let ranges = counts-of-accepted sheet e in
+          (ranges .0, rw rows-are (le-trans (rows-of-passage (readSheet sheet .sheet) lent .fits) (ranges .1)))
+      go (Refused r step) e = unfold refused no-sheet in rw (lent-refused e, refused-is-zeros sheet e .zeros) (omega arith, omega arith)
+
+-- read back from the buffer, they are the same
+read-back : (sheet : List ℕ) (before : List ℤ) → let rows = runLent sheet (length before) .rows in rowsIn (readSheet sheet .sheet .n) (length rows) (written rows before) ≡ rows
+read-back sheet before = rows-in-written (wide sheet (length before)) before
+
+-- ---- a sheet that was read and run
+
+module _ (sheet : List ℕ) {read : ReadSheet} (is : read ≡ readSheet sheet) (before : List ℤ) where
+  outcome-is : {outcome : Outcome} → read .outcome ≡ outcome → readSheet sheet .outcome ≡ outcome
+  outcome-is told = ap (λ (x : ReadSheet). x .outcome) (sym is) ∙ told
+
+  pub ran-refused : {r : Refusal} {step : ℕ} → read .outcome ≡ Refused r step → Ran sheet before before (record { n = read .sheet .n; count = 0; outcome = read .outcome })
+  unfolding endedOf refused written places
+  ran-refused told =
+      let e = outcome-is told in
+      record { answer = rw (lent-refused sheet (length before) e, is, e); buffer = rw (lent-refused sheet (length before) e) }
+
+  pub ran-accepted : {outcome : Outcome} {after : List ℤ} → read .outcome ≡ Accepted → outcome ≡ passage (read .sheet) (length before) .outcome → after ≡ written (passage (read .sheet) (length before) .rows) before → Ran sheet before after (record { n = read .sheet .n; count = rowsWritten (read .sheet) outcome; outcome = outcome })
+  unfolding endedOf
+  ran-accepted told ended left =
+      let run = lent-accepted sheet (length before) (outcome-is told) ∙ ap (λ (x : ReadSheet). passage (x .sheet) (length before)) (sym is) in
+      record {
+        answer = rw (run, ended, rows-of-passage (read .sheet) (length before) .count, is);
+        buffer = rw run left;
+      }
+
+module _ (sheet : List ℕ) {before after : List ℤ} {ended : Ended} (ran : Ran sheet before after ended) where
+  pub ran-text : runText (record { rows = rowsIn (ended .n) (ended .count) after; outcome = ended .outcome }) ≡ runText (runLent sheet (length before))
+  unfolding endedOf
+  ran-text = rw (ran .answer, ran .buffer, read-back sheet before)
+
+  pub ran-bounds : ((ended .n ≤ 8) × (ended .count ≤ 400)) × (ended .count * width (ended .n) ≤ length after)
+  unfolding endedOf
+  ran-bounds = rw (ran .answer, ran .buffer, written-length (runLent sheet (length before) .rows) before (rw (places-length (wide sheet (length before))) (fit sheet (length before)))) (few sheet (length before), fit sheet (length before))
+
+  pub ran-trusted : TrustedLent sheet (length before) after
+  unfolding TrustedLent TrustedOf
+  ran-trusted = rw (ran .buffer, read-back sheet before, rows-are sheet (length before)) (passage-trusted (readSheet sheet .sheet) (length before))
+
+-- ---- with places enough, document 01's answer
+
+needs-at-most : (sheet : Sheet) {lent : ℕ} → sheet .n ≤ 8 → sheet .steps ≤ 400 → 400 * width 8 ≤ lent → placesNeeded sheet ≤ lent
+unfolding placesNeeded width
+needs-at-most sheet n steps enough = le-trans (mul-le-mul {m₂ = 17} steps (omega arith)) enough
+
+enough-is-run : (sheet : List ℕ) (lent : ℕ) → 400 * width 8 ≤ lent → runLent sheet lent ≡ runOf sheet
+unfolding runOf
+enough-is-run sheet lent enough = go (readSheet sheet .outcome) refl
   where
-    rows : Rows sheet (passage sheet (length buffer))
-    rows = rows-of-passage sheet (length buffer)
+    go : (outcome : Outcome) → readSheet sheet .outcome ≡ outcome → runLent sheet lent ≡ runOf sheet
+    go Accepted e =
+        let counts = counts-of-accepted sheet e in
+        lent-accepted sheet lent e ∙ passage-runs (readSheet sheet .sheet) lent (accepted-is-acceptable sheet e .verdict) (needs-at-most (readSheet sheet .sheet) (counts .0) (counts .1) enough) ∙ sym (rw (e, runOf))
+    go (Refused r step) e = lent-refused sheet lent e ∙ sym (rw (e, runOf))
 
-rows-of-is : (sheet : Sheet) (outcome : Outcome) → rowsOf (sheet .steps) outcome ≡ rowsWritten sheet outcome
-unfolding rowsOf rowsWritten
-rows-of-is sheet Accepted = refl
-rows-of-is sheet (Refused r step) = refl
+pub enough-is-answer : (sheet : List ℕ) (lent : ℕ) → 400 * width 8 ≤ lent → runText (runLent sheet lent) ≡ answer sheet
+unfolding answer
+enough-is-answer sheet lent enough = ap runText (enough-is-run sheet lent enough)
 
--- ---- what the code has read, and what it prints
+run-trusted : (sheet : List ℕ) → TrustedOf (readSheet sheet .sheet) (runOf sheet .rows)
+unfolding TrustedOf
+run-trusted sheet = rw (← (enough-is-run sheet (400 * width 8) (le-refl (400 * width 8))), rows-are sheet (400 * width 8)) (passage-trusted (readSheet sheet .sheet) (400 * width 8))
 
-module _ (sheet : List ℕ) (read : ReadSheet) (is : read ≡ readSheet sheet) where
-  pub refused-answer : {r : Refusal} {step : ℕ} → read .outcome ≡ Refused r step → (n places : ℕ) (buffer : List ℤ) →
-      (runText (record { rows = rowsIn n 0 buffer; outcome = read .outcome }) ≡ answerLent sheet places) × (buffer ≡ rowsAfter sheet buffer)
-  unfolding runText rowsText rowsIn tabulate
-  refused-answer told n places buffer =
-      let e = ap (λ (x : ReadSheet). x .outcome) (sym is) ∙ told in
-      (ap outcomeText told ∙ sym (refused-text sheet e places), sym (refused-rows sheet e buffer))
+pub text-trusted : (sheet : List ℕ) {before after : List ℕ} {count : ℕ} → Printed before (answer sheet) count after → TrustedText sheet before count after
+unfolding answer
+text-trusted sheet p = record { run = runOf sheet; printed = p; trusted = run-trusted sheet }
 
-  module _ (told : read .outcome ≡ Accepted) (buffer : List ℤ) {outcome : Outcome} {after : List ℤ} (ended : outcome ≡ passage (read .sheet) (length buffer) .outcome) (left : after ≡ written (passage (read .sheet) (length buffer) .rows) buffer) where
-    accepted : readSheet sheet .outcome ≡ Accepted
-    accepted = ap (λ (x : ReadSheet). x .outcome) (sym is) ∙ told
+-- ---- an input of which the front was read
 
-    count-is : rowsOf (read .sheet .steps) outcome ≡ length (passage (read .sheet) (length buffer) .rows)
-    count-is = rows-of-is (read .sheet) outcome ∙ ap (rowsWritten (read .sheet)) ended ∙ sym (rows-of-passage (read .sheet) (length buffer) .count)
+-- an input has a front, and bytes that fit are the front of an input: of themselves
+front-of-each : (room : ℕ) (input : List ℕ) → FrontOf room input (take room input)
+unfolding FrontOf
+front-of-each room input = refl
 
-    pub accepted-answer : (runText (record { rows = rowsIn (read .sheet .n) (rowsOf (read .sheet .steps) outcome) after; outcome = outcome }) ≡ answerLent sheet (length buffer)) × (after ≡ rowsAfter sheet buffer)
-    accepted-answer = (
-      rw (rows-of-is (read .sheet) outcome) (text-of-buffer (read .sheet) buffer ended left ∙ ap (λ (x : ReadSheet). runText (passage (x .sheet) (length buffer))) is ∙ sym (accepted-text sheet accepted (length buffer))),
-      left ∙ ap (λ (x : ReadSheet). written (passage (x .sheet) (length buffer) .rows) buffer) is ∙ sym (accepted-rows sheet accepted buffer),
-    )
+front-of-itself : (room : ℕ) (bytes : List ℕ) → length bytes ≤ room → FrontOf room bytes bytes
+unfolding FrontOf
+front-of-itself room bytes fits = sym (take-all room bytes fits)
 
-    pub accepted-bounds : ((read .sheet .n ≤ 8) × (rowsOf (read .sheet .steps) outcome ≤ 400)) × (rowsOf (read .sheet .steps) outcome * width (read .sheet .n) ≤ length after)
-    unfolding n-limits steps-limits
-    accepted-bounds =
-        let ranges = sheet-in-range (read .sheet) (ap (λ (x : ReadSheet). sheetVerdict (x .sheet)) is ∙ accepted-is-acceptable sheet accepted .verdict) in
-        let rows = rows-of-passage (read .sheet) (length buffer) in
-        let fit = rows-fit (read .sheet) (length buffer) in
-        ((in-range (read .sheet .n) (ranges .n) .1, rw count-is (le-trans (rows .fits) (in-range (read .sheet .steps) (ranges .steps) .1))), rw (count-is, left, written-length (passage (read .sheet) (length buffer) .rows) buffer (rw (places-length (rows .wide)) fit)) fit)
+-- they are read alike, and so answered alike
+answer-by-reading : {one other : List ℕ} → readSheet one ≡ readSheet other → AnswersAlike one other
+unfolding answer runOf
+answer-by-reading e =
+    record {
+      reading = e;
+      text = ap (λ (read : ReadSheet). runText (elim (read .outcome) [ Accepted ↦ run (read .sheet) | Refused r step ↦ refused r step ])) e;
+    }
+
+pub alike-by-front : (room : ℕ) (input bytes : List ℕ) → most-bytes < room → FrontOf room input bytes → AnswersAlike input bytes
+unfolding FrontOf
+alike-by-front room input bytes enough e = answer-by-reading (sym (read-from-front room input enough) ∙ sym (ap readSheet e))

@@ -1,28 +1,66 @@
--- The answer to a sheet's bytes, with so many places lent for the rows.
-use Prim.Native.Nat.{ℕ, _-_}
-use mathlib.Core.List.{List}
+-- What comes of a sheet's bytes, with so many places lent for the rows: the answer, the rows in the buffer, and demand 3 of them.
+use Prim.Native.Nat.{ℕ}
+use mathlib.Core.List.{List, [], _∷_}
+use mathlib.Core.Path.{_≡_}
 use lib.IntN.{ℤ}
-use lib.ListN.{length}
-use Rattle.model.specs.Answer.{outcomeText, runText}
-use Rattle.model.specs.Passage.{passage, written}
+use lib.ListN.{length, take}
+use Rattle.model.specs.Answer.{runText, answer}
+use Rattle.model.specs.Passage.{Run, refused, passage, termsOf, startsOf, written, rowsIn}
 use Rattle.model.specs.Reading.{readSheet}
-use Rattle.model.specs.declared.Outcome.{Outcome}
+use Rattle.model.specs.Sheet.{result, refusedStep}
+use Rattle.model.specs.Step.{Row}
+use Rattle.model.specs.Trust.{Trusted}
 use Rattle.model.specs.declared.Outcome.the-variants.{Accepted, Refused}
+use Rattle.model.specs.declared.Sheet.{Sheet}
+use Rattle.answer.specs.Text.{Printed}
+use Rattle.answer.specs.declared.Ended.{Ended}
 
--- the text: a refused sheet's outcome, or the passage's rows and its outcome. With places enough it is `answer` of
--- document 01 (proofs/Answered.antt).
-unfoldable pub answerLent : List ℕ → ℕ → List ℕ
-answerLent sheet places =
+-- a sheet's passage, or its refusal and no row. With places enough it is `runOf` of document 01 (proofs/Answered.antt).
+unfoldable pub runLent : List ℕ → ℕ → Run
+runLent sheet places =
     let read = readSheet sheet in
-    elim (read .outcome) [ Accepted ↦ runText (passage (read .sheet) places) | Refused r step ↦ outcomeText (Refused r step) ]
+    elim (read .outcome) [ Accepted ↦ passage (read .sheet) places | Refused r step ↦ refused r step ]
 
--- the rows buffer after it
-unfoldable pub rowsAfter : List ℕ → List ℤ → List ℤ
-rowsAfter sheet buffer =
-    let read = readSheet sheet in
-    elim (read .outcome) [ Accepted ↦ written (passage (read .sheet) (length buffer) .rows) buffer | Refused r step ↦ buffer ]
+-- the sheet's quantities, 0 where it was refused, the rows written, and the outcome
+unfoldable pub endedOf : List ℕ → ℕ → Ended
+endedOf sheet places =
+    let run = runLent sheet places in
+    record { n = readSheet sheet .sheet .n; count = length (run .rows); outcome = run .outcome }
 
--- how many rows a passage of so many steps has written
-unfoldable pub rowsOf : ℕ → Outcome → ℕ
-rowsOf steps Accepted = steps
-rowsOf steps (Refused r step) = step - 1
+-- A sheet was read and run: what came of it, and the buffer lent for the rows, before and after.
+pub record Ran (sheet : List ℕ) (before after : List ℤ) (ended : Ended) : Type 0 where
+  pub answer : ended ≡ endedOf sheet (length before)
+  pub buffer : after ≡ written (runLent sheet (length before) .rows) before
+
+-- the same as four numbers: result, refused step, quantities, rows
+unfoldable pub summaryOf : Ended → List ℕ
+summaryOf ended = result (ended .outcome) ∷ refusedStep (ended .outcome) ∷ ended .n ∷ ended .count ∷ []
+
+-- ---- demand 3, of the sheet that the bytes read as
+
+unfoldable pub TrustedOf : Sheet → List Row → Type 0
+TrustedOf sheet rows = Trusted (termsOf sheet) (sheet .step) (sheet .tol) (startsOf sheet) rows
+
+-- of the rows written, as they stand in the buffer
+unfoldable pub TrustedLent : List ℕ → ℕ → List ℤ → Type 0
+TrustedLent sheet places after =
+    let read = readSheet sheet .sheet in
+    TrustedOf read (rowsIn (read .n) (length (runLent sheet places .rows)) after)
+
+-- of the text that was printed: it is that of a run, and the run's rows are trusted
+pub record TrustedText (sheet before : List ℕ) (count : ℕ) (after : List ℕ) : Type 0 where
+  pub run : Run
+  pub printed : Printed before (runText run) count after
+  pub trusted : TrustedOf (readSheet sheet .sheet) (run .rows)
+
+-- ---- an input of any length
+
+-- The bytes that are read of an input into a buffer of so many: all of it, or as many as there is room for. Whatever an input is, it has such bytes,
+-- and whatever they are, they are those of an input (proofs/Answered.antt).
+unfoldable pub FrontOf : ℕ → List ℕ → List ℕ → Type 0
+FrontOf room input bytes = bytes ≡ take room input
+
+-- Two texts are read as the same sheet, and so have the same answer.
+pub record AnswersAlike (one other : List ℕ) : Type 0 where
+  pub reading : readSheet one ≡ readSheet other
+  pub text : answer one ≡ answer other

@@ -1,23 +1,70 @@
-// The answer to a sheet: from its bytes, by way of lent buffers for the rows and the text, to the text's bytes.
+// The answer to a sheet: from its bytes, by way of buffers for the rows and the text, to the text's bytes.
 mod text;
 
 ghost use mathlib.Core.Path.{_≡_};
-ghost use Prim.Native.Nat.{_≤_};
-ghost use lib.ListN.{length};
-ghost use Rattle.answer.specs.Answered.{answerLent, rowsAfter, rowsOf};
+ghost use mathlib.Core.List.{List};
+ghost use Prim.Native.Nat.{ℕ, _≤_};
+ghost use lib.ListN.{length, take};
+ghost use Rattle.model.specs.Answer.{answer, runText};
+ghost use Rattle.model.specs.Passage as passage;
+ghost use Rattle.answer.specs.Answered.{runLent, endedOf, Ran, summaryOf, TrustedLent, TrustedText, FrontOf, AnswersAlike};
 ghost use Rattle.answer.specs.Text.{Printed, «most-answer»};
 use model::Outcome;
+use model::Sheet;
 use passage::run::run;
 use sheet::reading::read;
 use text::put_run;
+use text::refused_step;
+use text::result;
 
-// How many rows a passage of so many steps has written.
-fn rows_written(steps: usize, outcome: Outcome) -> usize
-    ensures { λ r. ⌜ r ≡ rowsOf steps outcome ⌝ }
+// Sizes that suffice for every sheet. c/planner.h has the same, and the test command compares them.
+
+// Bytes to read a sheet into: one more than a sheet may have, so that a longer one is seen to be too long.
+pub const SHEET_LENGTH: usize = 4097;
+
+// Places for the rows: 400 steps of 8 quantities.
+pub const ROWS_LENGTH: usize = 6800;
+
+// Bytes for the answer's text.
+pub const TEXT_LENGTH: usize = 204454;
+
+// What came of a sheet: its quantities, 0 where it was not read; the rows written; the outcome.
+pub struct Ended {
+    pub n: usize,
+    pub count: usize,
+    pub outcome: Outcome,
+}
+
+// How many rows the passage of a sheet has written.
+fn rows_written(sheet: Sheet, outcome: Outcome) -> usize
+    ensures { λ r. ⌜ r ≡ passage.rowsWritten sheet outcome ⌝ }
 {
     match outcome {
-        Outcome::Accepted => steps,
+        Outcome::Accepted => sheet.steps,
         Outcome::Refused(_, step) => { if step == 0 { 0 } else { step - 1 } }
+    }
+}
+
+// Reads a sheet and runs its passage into `rows`.
+fn run_sheet(sheet: &[u8], rows: &mut [i64]) -> Ended
+    ensures { λ r. ⌜ Ran (now (sheet .entry)) (now (rows .entry)) (now (rows .exit)) r ⌝ }
+{
+    let reading = read(sheet);
+    let read_as = reading.sheet;
+    let n = read_as.n;
+    let refused = reading.outcome;
+    if let Outcome::Refused(_, _) = refused {
+        return Ended {
+            n,
+            count: 0,
+            outcome: refused,
+        };
+    }
+    let outcome = run(read_as, rows);
+    Ended {
+        n,
+        count: rows_written(read_as, outcome),
+        outcome,
     }
 }
 
@@ -25,22 +72,68 @@ fn rows_written(steps: usize, outcome: Outcome) -> usize
 // which `text` holds as much as fits.
 #[no_mangle]
 pub extern "C" fn planner_answer(sheet: &[u8], rows: &mut [i64], text: &mut [u8]) -> usize
-    ensures printed { λ r. ⌜ Printed (now (text .entry)) (answerLent (now (sheet .entry)) (length (now (rows .entry)))) r (now (text .exit)) ⌝ }
-    ensures written { λ _. ⌜ now (rows .exit) ≡ rowsAfter (now (sheet .entry)) (now (rows .entry)) ⌝ }
+    ensures printed { λ r. ⌜ Printed (now (text .entry)) (runText (runLent (now (sheet .entry)) (length (now (rows .entry))))) r (now (text .exit)) ⌝ }
+    ensures written { λ _. ⌜ now (rows .exit) ≡ passage.written (runLent (now (sheet .entry)) (length (now (rows .entry))) .rows) (now (rows .entry)) ⌝ }
     ensures bounded { λ r. ⌜ r ≤ most-answer ⌝ }
+    ensures trusted { λ _. ⌜ TrustedLent (now (sheet .entry)) (length (now (rows .entry))) (now (rows .exit)) ⌝ }
 {
-    let reading = read(sheet);
-    let outcome = reading.outcome;
-    if let Outcome::Refused(_, _) = outcome {
-        return put_run(text, 0, 0, rows, outcome);
+    let ended = run_sheet(sheet, rows);
+    let outcome = ended.outcome;
+    put_run(text, ended.n, ended.count, rows, outcome)
+}
+
+// The result, the refused step, the sheet's quantities and the rows written.
+fn put_summary(summary: &mut [u64], ended: Ended)
+    requires { ⌜ length (now summary) ≡ 4 ⌝ }
+    ensures { λ _. ⌜ now (summary .exit) ≡ summaryOf ended ⌝ }
+{
+    let outcome = ended.outcome;
+    summary[0] = result(outcome);
+    summary[1] = refused_step(outcome);
+    summary[2] = ended.n as u64;
+    summary[3] = ended.count as u64;
+}
+
+// Reads a sheet and runs its passage into `rows`, without a text. `summary` is then the result, the refused step, the
+// sheet's quantities and the rows written.
+#[no_mangle]
+pub extern "C" fn planner_run(sheet: &[u8], rows: &mut [i64], summary: &mut [u64; 4])
+    ensures summarised { λ _. ⌜ now (summary .exit) ≡ summaryOf (endedOf (now (sheet .entry)) (length (now (rows .entry)))) ⌝ }
+    ensures written { λ _. ⌜ now (rows .exit) ≡ passage.written (runLent (now (sheet .entry)) (length (now (rows .entry))) .rows) (now (rows .entry)) ⌝ }
+    ensures trusted { λ _. ⌜ TrustedLent (now (sheet .entry)) (length (now (rows .entry))) (now (rows .exit)) ⌝ }
+{
+    let ended = run_sheet(sheet, rows);
+    put_summary(summary, ended);
+}
+
+// Reads a sheet and prints its answer into `text`, by way of rows of its own, which suffice for every sheet. Gives the
+// length of the whole answer, of which `text` holds as much as fits.
+fn answer_sheet(sheet: &[u8], text: &mut [u8]) -> usize
+    ensures printed { λ r. ⌜ Printed (now (text .entry)) (answer (now (sheet .entry))) r (now (text .exit)) ⌝ }
+    ensures bounded { λ r. ⌜ r ≤ most-answer ⌝ }
+    ensures trusted { λ r. ⌜ TrustedText (now (sheet .entry)) (now (text .entry)) r (now (text .exit)) ⌝ }
+{
+    let mut rows = [0i64; ROWS_LENGTH];
+    planner_answer(sheet, &mut rows, text)
+}
+
+// The first `count` bytes, or all where there are no more.
+fn front(bytes: &[u8], count: usize) -> &[u8]
+    ensures { λ r. ⌜ now r ≡ take count (now (bytes .entry)) ⌝ }
+{
+    if count < bytes.len() {
+        return &bytes[..count];
     }
-    let accepted = reading.sheet;
-    let ended = run(accepted, rows);
-    put_run(
-        text,
-        accepted.n,
-        rows_written(accepted.steps, ended),
-        rows,
-        ended,
-    )
+    bytes
+}
+
+// Prints the answer to an input of any length, of which the first `count` bytes of `sheet` were read: all that it has, or
+// as many as there is room for. The text has room for every answer.
+pub fn answer_input(sheet: &[u8; SHEET_LENGTH], count: usize, text: &mut [u8; TEXT_LENGTH]) -> usize
+    ensures printed { λ r. ⌜ Printed (now (text .entry)) (answer (take count (now (sheet .entry)))) r (now (text .exit)) ⌝ }
+    ensures whole { λ r. ⌜ r ≤ length (now (text .exit)) ⌝ }
+    ensures trusted { λ r. ⌜ TrustedText (take count (now (sheet .entry))) (now (text .entry)) r (now (text .exit)) ⌝ }
+    ensures of_input { λ _. ⌜ ((input : List ℕ) → FrontOf (length (now (sheet .entry))) input (take count (now (sheet .entry))) → AnswersAlike input (take count (now (sheet .entry)))) ⌝ }
+{
+    answer_sheet(front(sheet, count), text)
 }

@@ -162,7 +162,7 @@ fn number(refusal: Refusal) -> u64
 }
 
 // What is printed as `result`.
-fn result(outcome: Outcome) -> u64
+pub fn result(outcome: Outcome) -> u64
     ensures { λ r. ⌜ r ≡ sheet.result outcome ⌝ }
 {
     match outcome {
@@ -172,7 +172,7 @@ fn result(outcome: Outcome) -> u64
 }
 
 // What is printed as `at`.
-fn refused_step(outcome: Outcome) -> u64
+pub fn refused_step(outcome: Outcome) -> u64
     ensures { λ r. ⌜ r ≡ sheet.refusedStep outcome ⌝ }
 {
     match outcome {

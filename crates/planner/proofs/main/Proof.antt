@@ -1,65 +1,72 @@
--- `planner::main` meets its contract. The text buffer holds every answer, so all of it is written.
--- Assumes nothing.
-use Prim.Native.Nat.{ℕ, _≤_}
-use mathlib.Core.Path.{_≡_, sym, _∙_}
-use native.Mathlib.Omega.{arith}
-use lib.ListN.{length, length-replicate}
+-- `planner::main` meets its contract. Assumes nothing.
+use mathlib.Core.Path.{sym}
 use lib.Seq.{length-take-le}
 use borrow.Author.Needs.{needs}
 use Rattle.planner.proofs.main.Statement.{statement}
 use Rattle.planner.proofs.main.Tie as tie
 
--- the text has the room that it had, and no answer needs more
-room : (c : tie.After-planner-answer) → (length (c .planner-answer .last .1 .1 .0) ≡ 262144) × (c .planner-answer .result ≤ 204454)
-room c = (c .planner-answer .kept .1 .1 .0 ∙ length-replicate {A = ℕ} 262144 0, c .planner-answer .ensures .1 .1)
+-- the text holds the whole answer, and all of it is written
+slice-aggregate-write-all-2 : tie.Need-slice-aggregate-write-all-2
+slice-aggregate-write-all-2 c = sym (length-take-le (c .before .answer-input .result) _ (c .before .answer-input .ensures .1 .0))
 
-slice-aggregate-read-full : tie.Need-slice-aggregate-read-full
-slice-aggregate-read-full c = search needs
+slice-aggregate-read-input : tie.Need-slice-aggregate-read-input
+slice-aggregate-read-input c = search needs
 
-read-full-requires : tie.Need-read-full-requires
-read-full-requires c κs = search needs
+read-input-requires : tie.Need-read-input-requires
+read-input-requires c κs = search needs
 
-array-share-prefix-sheet : tie.Need-array-share-prefix-sheet
-array-share-prefix-sheet c = search needs
-
-slice-aggregate-planner-answer : tie.Need-slice-aggregate-planner-answer
-slice-aggregate-planner-answer c = search needs
-
-slice-aggregate-planner-answer-2 : tie.Need-slice-aggregate-planner-answer-2
-slice-aggregate-planner-answer-2 c = search needs
-
-slice-aggregate-planner-answer-3 : tie.Need-slice-aggregate-planner-answer-3
-slice-aggregate-planner-answer-3 c = search needs
-
-planner-answer-requires : tie.Need-planner-answer-requires
-planner-answer-requires c κs = search needs
-
-array-share-prefix-text : tie.Need-array-share-prefix-text
-array-share-prefix-text c = omega (arith, room (c .before .before))
+enum-told : tie.Need-enum-told
+enum-told c = search needs
 
 slice-aggregate-write-all : tie.Need-slice-aggregate-write-all
-slice-aggregate-write-all c =
-    let p = c .before .before .before in
-    sym (length-take-le (p .planner-answer .result) (p .planner-answer .last .1 .1 .0) (omega (arith, room p)))
+slice-aggregate-write-all c = search needs
 
 write-all-requires : tie.Need-write-all-requires
 write-all-requires c κs = search needs
 
+enum-known-input : tie.Need-enum-known-input
+enum-known-input c = search needs
+
+answer-input-requires : tie.Need-answer-input-requires
+answer-input-requires c κs = search needs
+
+array-share-prefix-text : tie.Need-array-share-prefix-text
+array-share-prefix-text c = search needs
+
+write-all-requires-2 : tie.Need-write-all-requires-2
+write-all-requires-2 c κs = search needs
+
+slice-aggregate-write-all-3 : tie.Need-slice-aggregate-write-all-3
+slice-aggregate-write-all-3 c = search needs
+
+write-all-requires-3 : tie.Need-write-all-requires-3
+write-all-requires-3 c κs = search needs
+
 returns : tie.Need-returns
 returns c = search needs
+
+returns-2 : tie.Need-returns-2
+returns-2 c = search needs
+
+returns-3 : tie.Need-returns-3
+returns-3 c = search needs
 
 pub main-spec : {M : Type 1} → statement M
 main-spec =
     tie.close
     (tie.spec
-    slice-aggregate-read-full
-    read-full-requires
-    array-share-prefix-sheet
-    slice-aggregate-planner-answer
-    slice-aggregate-planner-answer-2
-    slice-aggregate-planner-answer-3
-    planner-answer-requires
-    array-share-prefix-text
+    slice-aggregate-read-input
+    read-input-requires
+    enum-told
     slice-aggregate-write-all
     write-all-requires
-    returns)
+    enum-known-input
+    answer-input-requires
+    array-share-prefix-text
+    slice-aggregate-write-all-2
+    write-all-requires-2
+    slice-aggregate-write-all-3
+    write-all-requires-3
+    returns
+    returns-2
+    returns-3)

@@ -36,6 +36,17 @@ claims t =
     (digit-reads.Asked, digit-reads.Learnt, put-byte.Asked, put-byte.Learnt, and 1 kinds.ps (falls 1 kinds.ps _<_ measure t) put-natural.Pre, put-natural.Post)
 
 module _ (t : ℕ) where
+  returns : lts.Need-returns (claims t) (given t) put-natural.Post
+  returns c =
+      let arm = c .before .before .before .before .before in
+      put-one-digit (arm .before .before .args .number) (arm .if1 .taken) (c .before .before .before .digit .ensures) (c .before .before .put-byte .ensures)
+
+  returns-2 : lts.Need-returns-2 (claims t) (given t) put-natural.Post
+  returns-2 c =
+      let front = c .before .before .before .before .before .before .before in
+      let arm = front .before .before in
+      put-one-digit-more (arm .before .before .args .number) (arm .if1 .left) (c .before .before .before .digit2 .ensures) (front .put-natural .ensures) (c .before .before .put-byte2 .ensures)
+
   digit-requires : lts.Need-digit-requires (claims t) (given t) put-natural.Post
   digit-requires c κs = omega arith
 
@@ -61,20 +72,9 @@ module _ (t : ℕ) where
   same-length : lts.Need-same-length (claims t) (given t) put-natural.Post
   same-length c = put-keeps-length (c .before .before .put-byte .ensures)
 
-  returns : lts.Need-returns (claims t) (given t) put-natural.Post
-  returns c =
-      let arm = c .before .before .before .before .before in
-      put-one-digit (arm .before .before .args .number) (arm .if1 .taken) (c .before .before .before .digit .ensures) (c .before .before .put-byte .ensures)
-
   same-length-2 : lts.Need-same-length-2 (claims t) (given t) put-natural.Post
   same-length-2 c =
       put-keeps-length (put-then (c .before .before .before .before .before .before .before .put-natural .ensures) (c .before .before .put-byte2 .ensures))
-
-  returns-2 : lts.Need-returns-2 (claims t) (given t) put-natural.Post
-  returns-2 c =
-      let front = c .before .before .before .before .before .before .before in
-      let arm = front .before .before in
-      put-one-digit-more (arm .before .before .args .number) (arm .if1 .left) (c .before .before .before .digit2 .ensures) (front .put-natural .ensures) (c .before .before .put-byte2 .ensures)
 
 pub +put-natural-spec : {M : Type 1} → statement M
 +put-natural-spec =

@@ -27,13 +27,9 @@ row-lines n rows row f e = rw (e, toZ-ofZ f, add-one row, append-nil)
 lines : {m : ℕ} (d : tie.After-degree) → let a = d .before .before .args in m ≡ natAbs (toZ w64 (ofZ w64 (getD (a .rows .now) (a .row * (2 * a .n + 1)) (pos 0)))) → rowsText (suc (a .row)) (rowIn (a .n) (a .rows .now) (a .row) ∷ []) ≡ printed "row" (pos (a .row + 1)) ++ printed "degree" (pos m) ++ ballsText (rowIn (a .n) (a .rows .now) (a .row) .balls)
 lines d e = row-lines (d .before .before .args .n) (d .before .before .args .rows .now) (d .before .before .args .row) (record { sfits = d .degree .given }) e
 
-add-put-line : tie.Need-add-put-line
-unfolding width
-add-put-line c = omega arith
-
 number-length : (c : tie.After-put-line-arg2) → length (printed "row" (pos (c .before .before .before .before .args .row + 1))) ≤ most-line 3
-unfolding bytes
-number-length c = length-line "row" (pos (c .before .before .before .before .args .row + 1)) (add-put-line c .fits)
+unfolding bytes width
+number-length c = length-line "row" (pos (c .before .before .before .before .args .row + 1)) (omega arith)
 
 degree-length : (c : tie.After-magnitude) → length (printed "degree" (pos (c .magnitude .result))) ≤ most-line 6
 unfolding bytes
@@ -46,6 +42,10 @@ returns c =
     let numbered = headed .before .before .before .before .before .before in
     let balls = c .before .before .put-balls .ensures in
     (put-same (sym (lines (numbered .before .before .before) (headed .before .magnitude .ensures))) (put-then (put-then (numbered .put-line .ensures) (headed .put-line2 .ensures)) (balls .0)), omega (arith, balls .1, numbered .put-line .ensures .counted, headed .put-line2 .ensures .counted, number-length (numbered .before), degree-length (headed .before)))
+
+add-put-line : tie.Need-add-put-line
+unfolding width
+add-put-line c = omega arith
 
 mul-degree : tie.Need-mul-degree
 unfolding width

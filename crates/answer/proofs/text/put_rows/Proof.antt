@@ -37,6 +37,20 @@ loop-holds : tie.Need-loop-holds Inv-loop μ-loop
 unfolding lines rowsIn tabulate rowsText
 loop-holds c = (omega arith, omega arith, put-nothing _ _)
 
+loop-again : tie.Need-loop-again Inv-loop μ-loop
+loop-again c =
+    let t = c .before .before .before .before .before in
+    let a = t .before .before .args in
+    let row = c .before .before .put-row .ensures in
+    (omega arith, omega (arith, t .loop .inv .1, row .1, suc-mul (t .loop .row) (most-row (a .n)), ap (λ (k : ℕ). k * most-row (a .n)) (add-one (t .loop .row))), put-turn (lines (a .n) (a .rows .now)) _ (lines-grow (a .n) (a .rows .now)) (t .loop .row) (t .loop .inv .2) (row .0))
+
+returns : tie.Need-returns Inv-loop μ-loop
+unfolding lines
+returns c =
+    let a = c .before .before .before .args in
+    let all : c .before .loop .row ≡ a .count = omega arith in
+    (put-same (ap (lines (a .n) (a .rows .now)) all) (c .before .loop .inv .2), omega (arith, c .before .loop .inv .1, ap (λ (k : ℕ). k * most-row (a .n)) all))
+
 put-row-requires : tie.Need-put-row-requires Inv-loop μ-loop
 put-row-requires c κs =
     let t = c .before .before in
@@ -49,22 +63,8 @@ add-row c = omega arith
 loop-less : tie.Need-loop-less Inv-loop μ-loop
 loop-less c = omega arith
 
-loop-again : tie.Need-loop-again Inv-loop μ-loop
-loop-again c =
-    let t = c .before .before .before .before .before in
-    let a = t .before .before .args in
-    let row = c .before .before .put-row .ensures in
-    (omega arith, omega (arith, t .loop .inv .1, row .1, suc-mul (t .loop .row) (most-row (a .n)), ap (λ (k : ℕ). k * most-row (a .n)) (add-one (t .loop .row))), put-turn (lines (a .n) (a .rows .now)) _ (lines-grow (a .n) (a .rows .now)) (t .loop .row) (t .loop .inv .2) (row .0))
-
 same-length : tie.Need-same-length Inv-loop μ-loop
 same-length c = put-keeps-length (c .before .loop .inv .2)
-
-returns : tie.Need-returns Inv-loop μ-loop
-unfolding lines
-returns c =
-    let a = c .before .before .before .args in
-    let all : c .before .loop .row ≡ a .count = omega arith in
-    (put-same (ap (lines (a .n) (a .rows .now)) all) (c .before .loop .inv .2), omega (arith, c .before .loop .inv .1, ap (λ (k : ℕ). k * most-row (a .n)) all))
 
 pub put-rows-spec : {M : Type 1} → statement M
 put-rows-spec =

@@ -12,6 +12,13 @@ use Rattle.answer.proofs.text.put_run.Tie as tie
 rows-brief : (n count : ℕ) → n ≤ 8 → count ≤ 400 → count * most-row n ≤ 400 * most-row 8
 rows-brief n count h k = omega (arith, mul-le-mul-right (most-row n) k)
 
+returns : tie.Need-returns
+unfolding runText
+returns c =
+    let rows = c .before .before .before .before .before .before in
+    let s = rows .before .before .before in
+    (put-printed (put-then (rows .put-rows .ensures .0) (c .before .before .put-outcome .ensures .0)), omega (arith, c .before .before .put-outcome .ensures .1, rows .put-rows .ensures .1, rows-brief (s .args .n) (s .args .count) (s .pre .0 .0) (s .pre .0 .1)))
+
 put-rows-requires : tie.Need-put-rows-requires
 put-rows-requires c κs =
     let s = c .before .before in
@@ -25,13 +32,6 @@ put-outcome-requires c κs =
 
 same-length : tie.Need-same-length
 same-length c = search needs
-
-returns : tie.Need-returns
-unfolding runText
-returns c =
-    let rows = c .before .before .before .before .before .before in
-    let s = rows .before .before .before in
-    (put-printed (put-then (rows .put-rows .ensures .0) (c .before .before .put-outcome .ensures .0)), omega (arith, c .before .before .put-outcome .ensures .1, rows .put-rows .ensures .1, rows-brief (s .args .n) (s .args .count) (s .pre .0 .0) (s .pre .0 .1)))
 
 pub put-run-spec : {M : Type 1} → statement M
 put-run-spec = tie.close (tie.spec put-rows-requires put-outcome-requires same-length returns)

@@ -1,0 +1,33 @@
+-- `answer::answer_sheet` meets its contract. Its rows have places enough for every sheet, so the answer is document 01's.
+-- Assumes nothing.
+use Prim.Native.Nat.{ℕ, _*_}
+use mathlib.Core.List.{List}
+use mathlib.Core.Path.{refl, subst}
+use borrow.Author.Tests.{leb-true}
+use Rattle.model.specs.Passage.{width}
+use Rattle.answer.specs.Text.{Printed}
+use Rattle.answer.proofs.Answered.{enough-is-answer, text-trusted}
+use borrow.Author.Needs.{needs}
+use Rattle.answer.proofs.answer_sheet.Statement.{statement}
+use Rattle.answer.proofs.answer_sheet.Tie as tie
+
+returns : tie.Need-returns
+unfolding width
+returns c =
+    let p = c .before .before .before in
+    let a = p .before .before .before .before .before in
+    let printed = subst (λ (text : List ℕ). Printed (a .args .text .now) text (p .planner-answer .result) (p .planner-answer .last .1 .1 .0)) (enough-is-answer (a .args .sheet .now) _ (leb-true (400 * width 8) _ refl)) (p .planner-answer .ensures .0) in
+    (printed, (p .planner-answer .ensures .1 .1 .0, text-trusted (a .args .sheet .now) printed))
+
+slice-aggregate-planner-answer : tie.Need-slice-aggregate-planner-answer
+slice-aggregate-planner-answer c = search needs
+
+planner-answer-requires : tie.Need-planner-answer-requires
+planner-answer-requires c κs = search needs
+
+same-length : tie.Need-same-length
+same-length c = search needs
+
+pub answer-sheet-spec : {M : Type 1} → statement M
+answer-sheet-spec =
+    tie.close (tie.spec slice-aggregate-planner-answer planner-answer-requires same-length returns)
