@@ -1,17 +1,42 @@
-/* Reads a sheet from standard input and prints its answer. */
+/*
+ * Reads a sheet from standard input and prints its answer; with an argument, prints the same from planner_run's rows and
+ * summary. The exit status is the answer's result, or 74 where nothing could be read or written.
+ */
+#include <inttypes.h>
 #include <stdio.h>
 #include "planner.h"
 
-static uint8_t sheet[4097];
+enum { FAILED = 74 };
+
+static uint8_t sheet[PLANNER_SHEET_LENGTH];
 static int64_t rows[PLANNER_ROWS_LENGTH];
 static uint8_t text[PLANNER_TEXT_LENGTH];
 
-int main(void)
+static void print_rows(const uint64_t *summary)
 {
+    size_t n = summary[PLANNER_QUANTITIES];
+    const int64_t *row = rows;
+    for (size_t j = 0; j < summary[PLANNER_ROWS]; j++, row += 2 * n + 1) {
+        printf("row=%zu\ndegree=%" PRId64 "\n", j + 1, row[0]);
+        for (size_t i = 1; i <= n; i++)
+            printf("value=%" PRId64 "\nradius=%" PRId64 "\n", row[i], row[n + i]);
+    }
+    printf("result=%" PRIu64 "\nat=%" PRIu64 "\n", summary[PLANNER_RESULT], summary[PLANNER_AT]);
+}
+
+int main(int argc, char **argv)
+{
+    (void)argv;
+    uint64_t summary[PLANNER_SUMMARY_LENGTH];
     size_t sheet_length = fread(sheet, 1, sizeof sheet, stdin);
-    size_t length = planner_answer(sheet, sheet_length, rows, PLANNER_ROWS_LENGTH, text, sizeof text);
-    if (length > sizeof text)
-        return 1;
-    fwrite(text, 1, length, stdout);
-    return 0;
+    if (ferror(stdin))
+        return FAILED;
+    planner_run(sheet, sheet_length, rows, PLANNER_ROWS_LENGTH, summary);
+    if (argc > 1) {
+        print_rows(summary);
+    } else {
+        size_t length = planner_answer(sheet, sheet_length, rows, PLANNER_ROWS_LENGTH, text, sizeof text);
+        fwrite(text, 1, length, stdout);
+    }
+    return fflush(stdout) == 0 && !ferror(stdout) ? (int)summary[PLANNER_RESULT] : FAILED;
 }

@@ -1,8 +1,19 @@
-//! Links the proved planner where the environment variable PLANNER_LIBRARY names its static library.
+//! Takes the sizes of c/planner.h, and links the proved planner where the environment variable PLANNER_LIBRARY names
+//! its static library.
 
-use std::{env, path::Path};
+use std::{env, fs, path::Path};
+
+const HEADER: &str = "../c/planner.h";
 
 fn main() {
+    println!("cargo::rerun-if-changed={HEADER}");
+    let header = fs::read_to_string(HEADER).expect("c/planner.h stands beside reference/");
+    for name in ["SHEET", "ROWS", "TEXT"].map(|what| format!("PLANNER_{what}_LENGTH")) {
+        let define = format!("#define {name} ");
+        let size = header.lines().find_map(|line| line.strip_prefix(&define));
+        println!("cargo::rustc-env={name}={}", size.expect(&name));
+    }
+
     println!("cargo::rerun-if-env-changed=PLANNER_LIBRARY");
     let Ok(library) = env::var("PLANNER_LIBRARY") else {
         return;

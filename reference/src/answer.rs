@@ -4,37 +4,64 @@ use crate::passage::{self, Refused};
 use crate::sheet;
 use std::fmt::Write;
 
-/// Reads a sheet, runs its passage into `rows` and prints the answer.
-pub fn answer(sheet: &[u8], rows: &mut [i64]) -> String {
-    let sheet = match sheet::read(sheet) {
-        Ok(sheet) => sheet,
-        Err(refusal) => return text(0, &[], Err(Refused { refusal, at: 0 })),
-    };
-    let outcome = passage::run(&sheet, rows);
-    let written = match outcome {
-        Ok(()) => sheet.steps as usize,
-        Err(refused) => refused.at.saturating_sub(1),
-    };
-    let rows = &rows[..written * sheet.row_places()];
-    text(sheet.starts.len(), rows, outcome)
+/// What came of a sheet.
+#[derive(Clone, Copy, Debug, PartialEq, Eq)]
+pub struct Summary {
+    /// 0, or the refusal's number.
+    pub result: u64,
+    /// The refused step, or 0.
+    pub at: u64,
+    /// The sheet's quantities, or 0 where it was not read.
+    pub quantities: u64,
+    /// The rows written.
+    pub rows: u64,
 }
 
-/// The text of the rows written for `n` quantities and of what became of the passage.
-fn text(n: usize, rows: &[i64], outcome: Result<(), Refused>) -> String {
-    let (result, at) = match outcome {
-        Ok(()) => (0, 0),
-        Err(refused) => (refused.refusal as u8, refused.at),
+/// Reads a sheet and runs its passage into `rows`.
+pub fn run(sheet: &[u8], rows: &mut [i64]) -> Summary {
+    let refused = |Refused { refusal, at }| Summary {
+        result: refusal as u64,
+        at: at as u64,
+        quantities: 0,
+        rows: at.saturating_sub(1) as u64,
     };
+    let sheet = match sheet::read(sheet) {
+        Ok(sheet) => sheet,
+        Err(refusal) => return refused(Refused { refusal, at: 0 }),
+    };
+    let accepted = Summary {
+        result: 0,
+        at: 0,
+        quantities: 0,
+        rows: sheet.steps as u64,
+    };
+    Summary {
+        quantities: sheet.starts.len() as u64,
+        ..passage::run(&sheet, rows).map_or_else(refused, |()| accepted)
+    }
+}
+
+/// Reads a sheet, runs its passage into `rows` and prints the answer.
+pub fn answer(sheet: &[u8], rows: &mut [i64]) -> String {
+    let summary = run(sheet, rows);
+    text(&summary, rows)
+}
+
+/// The text of the rows written and of what became of the passage.
+pub fn text(summary: &Summary, rows: &[i64]) -> String {
+    let n = summary.quantities as usize;
+    let width = 2 * n + 1;
+    let rows = &rows[..summary.rows as usize * width];
     let mut text = String::with_capacity(32 + 18 * rows.len());
     let mut print = || {
-        for (row, number) in rows.chunks_exact(2 * n + 1).zip(1..) {
+        for (row, number) in rows.chunks_exact(width).zip(1..) {
             let (values, radii) = row[1..].split_at(n);
             writeln!(text, "row={number}\ndegree={}", row[0])?;
             for (value, radius) in values.iter().zip(radii) {
                 writeln!(text, "value={value}\nradius={radius}")?;
             }
         }
-        writeln!(text, "result={result}\nat={at}")
+        writeln!(text, "result={}\nat={}", summary.result, summary.at)
     };
     print().expect("writing to a string does not fail");
     text

@@ -1,7 +1,9 @@
 //! The proved planner beside this program, in one process: the same sheet and equal buffers to both,
-//! then every byte of the text and every place of the buffer compared.
+//! then every byte of the text, every place of the buffer and the summary compared.
 
+use crate::answer::{self, Summary};
 use crate::generate::Trial;
+use crate::sheet::{MOST_BYTES, MOST_PLACES};
 
 /// Whether the proved planner is linked (see build.rs).
 pub const LINKED: bool = cfg!(planner_linked);
@@ -11,34 +13,64 @@ pub const LINKED: bool = cfg!(planner_linked);
 pub struct Outcome {
     pub text: Vec<u8>,
     pub rows: Vec<i64>,
+    /// What it made of the same trial when no text was asked for.
+    pub summary: Summary,
+    pub rows_without_text: Vec<i64>,
 }
 
 /// This program's outcome, its buffer filled with `mark` before.
 pub fn reference(trial: &Trial, mark: i64) -> Outcome {
     let mut rows = vec![mark; trial.places];
-    let text = crate::answer::answer(&trial.sheet, &mut rows).into_bytes();
-    Outcome { text, rows }
+    let summary = answer::run(&trial.sheet, &mut rows);
+    let text = answer::text(&summary, &rows).into_bytes();
+    let rows_without_text = rows.clone();
+    Outcome {
+        text,
+        rows,
+        summary,
+        rows_without_text,
+    }
 }
 
-/// The bytes that suffice for every answer: c/planner.h, PLANNER_TEXT_LENGTH.
-pub const MOST_TEXT: usize = 262_144;
+/// The bytes that suffice for every answer, by c/planner.h (see build.rs).
+pub const MOST_TEXT: usize = header(env!("PLANNER_TEXT_LENGTH"));
+
+const _: () = assert!(header(env!("PLANNER_SHEET_LENGTH")) == MOST_BYTES + 1);
+const _: () = assert!(header(env!("PLANNER_ROWS_LENGTH")) == MOST_PLACES);
+
+const fn header(number: &str) -> usize {
+    match usize::from_str_radix(number, 10) {
+        Ok(number) => number,
+        Err(_) => panic!("a size of c/planner.h is not a number"),
+    }
+}
+
+#[cfg(planner_linked)]
+mod c {
+    unsafe extern "C" {
+        pub fn planner_answer(
+            sheet: *const u8,
+            sheet_length: usize,
+            rows: *mut i64,
+            rows_length: usize,
+            text: *mut u8,
+            text_length: usize,
+        ) -> usize;
+
+        pub fn planner_run(
+            sheet: *const u8,
+            sheet_length: usize,
+            rows: *mut i64,
+            rows_length: usize,
+            summary: *mut [u64; 4],
+        );
+    }
+}
 
 /// The proved planner's answer to a sheet, its rows and its text into the buffers lent: the text's
 /// length. Where the planner is not linked, there is none.
 #[cfg(planner_linked)]
 pub fn planner_answer(sheet: &[u8], rows: &mut [i64], text: &mut [u8]) -> Option<usize> {
-    mod c {
-        unsafe extern "C" {
-            pub fn planner_answer(
-                sheet: *const u8,
-                sheet_length: usize,
-                rows: *mut i64,
-                rows_length: usize,
-                text: *mut u8,
-                text_length: usize,
-            ) -> usize;
-        }
-    }
     // SAFETY: each pointer is that of a live slice of the length beside it, and no two overlap.
     Some(unsafe {
         c::planner_answer(
@@ -57,13 +89,50 @@ pub fn planner_answer(_sheet: &[u8], _rows: &mut [i64], _text: &mut [u8]) -> Opt
     None
 }
 
+/// What the proved planner makes of a sheet without a text, its rows into the buffer lent. Where the
+/// planner is not linked, there is nothing.
+#[cfg(planner_linked)]
+pub fn planner_run(sheet: &[u8], rows: &mut [i64]) -> Option<Summary> {
+    let mut summary = [u64::MAX; 4];
+    // SAFETY: each pointer is that of a live slice of the length beside it, the last that of four
+    // numbers, and no two overlap.
+    unsafe {
+        c::planner_run(
+            sheet.as_ptr(),
+            sheet.len(),
+            rows.as_mut_ptr(),
+            rows.len(),
+            &mut summary,
+        );
+    }
+    let [result, at, quantities, rows] = summary;
+    Some(Summary {
+        result,
+        at,
+        quantities,
+        rows,
+    })
+}
+
+#[cfg(not(planner_linked))]
+pub fn planner_run(_sheet: &[u8], _rows: &mut [i64]) -> Option<Summary> {
+    None
+}
+
 /// The proved planner's outcome, its buffer filled with `mark` before; none where it is not linked.
 pub fn proved(trial: &Trial, mark: i64) -> Option<Outcome> {
     let mut rows = vec![mark; trial.places];
     let mut text = vec![0; MOST_TEXT];
     let length = planner_answer(&trial.sheet, &mut rows, &mut text)?;
     text.truncate(length);
-    Some(Outcome { text, rows })
+    let mut rows_without_text = vec![mark; trial.places];
+    let summary = planner_run(&trial.sheet, &mut rows_without_text)?;
+    Some(Outcome {
+        text,
+        rows,
+        summary,
+        rows_without_text,
+    })
 }
 
 /// How many trials ended with each result, 0 to 8.

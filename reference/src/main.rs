@@ -10,7 +10,7 @@ use reference::sheet::{MOST_BYTES, MOST_PLACES, read};
 use reference::timing::{Times, side_by_side};
 use std::env;
 use std::io::{self, BufWriter, Read, Write};
-use std::process::ExitCode;
+use std::process::{Command, ExitCode, Stdio};
 use std::time::{Duration, Instant};
 
 const USAGE: &str = "\
@@ -18,6 +18,7 @@ reference                      reads a sheet from standard input, prints its ans
 reference generate SEED COUNT  prints random sheets, each after a line `bytes=B places=P`
 reference compare SEED COUNT   runs random sheets through the proved planner and this program
 reference explore SEED TIME    goes on for TIME seconds, altering sheets that ended in a new way
+reference program SEED COUNT FILE  runs random sheets through the program FILE and this one
 reference time ROUNDS FILE..   times both programs on each sheet, turn and turn about
 reference cost ROUNDS FILE     times both as a sheet's steps, terms and degree vary, one at a time
 ";
@@ -29,6 +30,9 @@ fn main() -> io::Result<ExitCode> {
         (None, _) => answer_sheet(),
         (Some("time"), _) if arguments.len() > 2 => time(&arguments[1], &arguments[2..]),
         (Some("cost"), _) if arguments.len() == 3 => cost(&arguments[1], &arguments[2]),
+        (Some("program"), _) if arguments.len() == 4 => {
+            program(&arguments[1], &arguments[2], &arguments[3])
+        }
         (Some("generate"), Some(&[seed, count])) => generate(seed, count as usize),
         (Some("compare"), Some(&[seed, count])) => compare(seed, count as usize),
         (Some("explore"), Some(&[seed, seconds])) => explore(seed, Duration::from_secs(seconds)),
@@ -76,6 +80,46 @@ fn compare(seed: u64, count: usize) -> io::Result<ExitCode> {
     }
     summarise(&tally, seed);
     Ok(ExitCode::SUCCESS)
+}
+
+/// Runs random sheets through a program, which reads one from standard input, prints its answer and
+/// says nothing on standard error. Its buffers are its own, so the places of a trial do not matter.
+fn program(seed: &str, count: &str, file: &str) -> io::Result<ExitCode> {
+    let (Ok(seed), Ok(count)) = (seed.parse(), count.parse()) else {
+        return usage();
+    };
+    let mut rows = vec![0; MOST_PLACES];
+    for Trial { sheet, .. } in Trials::from_seed(seed).take(count) {
+        let expected = answer(&sheet, &mut rows);
+        let printed = piped(file, &sheet)?;
+        if printed.stdout != expected.as_bytes() || !printed.stderr.is_empty() {
+            let mut output = io::stdout().lock();
+            writeln!(output, "{file} differs on this sheet:")?;
+            output.write_all(&sheet)?;
+            writeln!(output, "expected:\n{expected}printed, and said:")?;
+            output.write_all(&printed.stdout)?;
+            output.write_all(&printed.stderr)?;
+            return Ok(ExitCode::FAILURE);
+        }
+    }
+    println!("{count} sheets from seed {seed} through {file}, no difference");
+    Ok(ExitCode::SUCCESS)
+}
+
+/// What a program prints, given this input. A program that has read enough may end before it has
+/// read all of it.
+fn piped(file: &str, input: &[u8]) -> io::Result<std::process::Output> {
+    let mut child = Command::new(file)
+        .stdin(Stdio::piped())
+        .stdout(Stdio::piped())
+        .stderr(Stdio::piped())
+        .spawn()?;
+    let mut stdin = child.stdin.take().expect("standard input is a pipe");
+    match stdin.write_all(input) {
+        Err(error) if error.kind() != io::ErrorKind::BrokenPipe => return Err(error),
+        _ => drop(stdin),
+    }
+    child.wait_with_output()
 }
 
 fn explore(seed: u64, time: Duration) -> io::Result<ExitCode> {
@@ -196,6 +240,10 @@ fn report(trial: &Trial, [ours, theirs]: &[Outcome; 2]) -> io::Result<ExitCode> 
     let places = ours.rows.iter().zip(&theirs.rows);
     for (place, (our, their)) in places.enumerate().filter(|(_, (our, their))| our != their) {
         writeln!(output, "place {place}: reference {our}, proved {their}")?;
+    }
+    if ours.summary != theirs.summary || ours.rows_without_text != theirs.rows_without_text {
+        writeln!(output, "without a text, reference: {:?}", ours.summary)?;
+        writeln!(output, "without a text, proved: {:?}", theirs.summary)?;
     }
     if ours.text != theirs.text {
         writeln!(output, "reference:")?;
