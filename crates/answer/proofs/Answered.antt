@@ -1,30 +1,25 @@
 -- What comes of a sheet's bytes with lent places: with places enough it is document 01's; its rows stand in the buffer and are trusted.
 -- Assumes nothing.
-use Prim.Native.Nat.{ℕ, suc, _-_, _*_, _≤_, _<_}
-use mathlib.Core.Bool.{Bool, true, false}
-use mathlib.Core.List.{List, [], _++_}
-use mathlib.Core.Logic.{⊎-elim}
-use mathlib.Core.Path.{_≡_, refl, sym, ap, subst, _∙_}
+use Prim.Native.Nat.{ℕ, _*_, _≤_, _<_}
+use mathlib.Core.List.{List}
+use mathlib.Core.Path.{_≡_, refl, sym, ap, _∙_}
 use native.Mathlib.Omega.{arith}
 use native.Mathlib.Nat.{le-trans, le-refl, mul-le-mul, mul-le-mul-right}
-use borrow.Author.Tests.{leb-true, leb-false}
-use lib.Dec.{leb}
 use lib.IntN.{ℤ}
 use lib.ListN.{length, take}
-use lib.Seq.{take-all, length-take-le, take-take}
-use Rattle.model.specs.Range.{tabulate}
-use Rattle.model.specs.Answer.{answer, outcomeText, rowsText, runText, runOf}
+use lib.Seq.{take-all}
+use Rattle.model.specs.Answer.{answer, runText, runOf}
 use Rattle.model.specs.Passage.{Run, passage, run, refused, places, written, width, placesNeeded, rowsIn, rowsWritten}
 use Rattle.model.specs.Reading.{most-bytes, readSheet}
-use Rattle.model.specs.Sheet.{n-limits, steps-limits, Verdict, sheetVerdict, passes, refuses, no-sheet, inRange, ask, within, from_to_, _then_}
+use Rattle.model.specs.Sheet.{n-limits, steps-limits, sheetVerdict, refuses, no-sheet, inRange, ask, within, from_to_, _then_}
 use Rattle.model.specs.declared.Outcome.{Outcome}
 use Rattle.model.specs.declared.Outcome.the-variants.{Accepted, Refused}
 use Rattle.model.specs.declared.Refusal.{Refusal}
-use Rattle.model.specs.declared.Refusal.the-variants.{OutOfRange, TooFewPlaces}
+use Rattle.model.specs.declared.Refusal.the-variants.{OutOfRange}
 use Rattle.model.specs.declared.Reading.{Reading as ReadSheet}
 use Rattle.model.specs.declared.Sheet.{Sheet}
 use Rattle.model.proofs.Readings.{accepted-is-acceptable, refused-is-zeros, read-from-front}
-use Rattle.model.proofs.Passages.{Rows, Wide, none, rows-of-passage, rows-in-written, places-length, written-length, passage-refused, passage-too-few-places, passage-runs}
+use Rattle.model.proofs.Passages.{Wide, rows-of-run, rows-of-passage, rows-in-written, places-length, written-length, passage-refused, passage-runs, passage-either}
 use Rattle.model.proofs.Trusted.{passage-trusted}
 use Rattle.model.proofs.Verdicts.{in-range, sheet-in-range}
 use Rattle.answer.specs.declared.Ended.{Ended}
@@ -36,14 +31,9 @@ unfolding refused
 no-rows-fit r lent n = omega arith
 
 rows-fit : (sheet : Sheet) (lent : ℕ) → length (passage sheet lent .rows) * width (sheet .n) ≤ lent
-rows-fit sheet lent = judged (sheetVerdict sheet) (leb (placesNeeded sheet) lent) refl refl
-  where
-    judged : (v : Verdict) (room : Bool) → sheetVerdict sheet ≡ v → leb (placesNeeded sheet) lent ≡ room → length (passage sheet lent .rows) * width (sheet .n) ≤ lent
-    judged (refuses r) room e l = rw (passage-refused sheet lent e) (no-rows-fit r lent (sheet .n))
-    judged passes false e l = rw (passage-too-few-places sheet lent e (leb-false (placesNeeded sheet) lent l)) (no-rows-fit TooFewPlaces lent (sheet .n))
-    judged passes true e l =
-        let needed = leb-true (placesNeeded sheet) lent l in
-        unfold placesNeeded in le-trans (mul-le-mul-right (width (sheet .n)) (rows-of-passage sheet lent .fits)) needed
+unfolding placesNeeded
+rows-fit sheet lent =
+    passage-either sheet lent (λ run. length (run .rows) * width (sheet .n) ≤ lent) (λ r. no-rows-fit r lent (sheet .n)) (λ e room. le-trans (mul-le-mul-right (width (sheet .n)) (rows-of-run sheet .fits)) room)
 
 zeros-refused : sheetVerdict no-sheet ≡ refuses OutOfRange
 unfolding sheetVerdict no-sheet inRange ask within n-limits from_to_ _then_

@@ -1,9 +1,9 @@
 -- Sums over the terms that stand in flat arrays, as a loop over these forms them. Assumes nothing.
-use Prim.Native.Nat.{ℕ, _*_, _≤_, _<_}
+use Prim.Native.Nat.{ℕ, _≤_, _<_}
 use mathlib.Core.List.{List}
 use mathlib.Core.Path.{_≡_, ap}
 use native.Mathlib.Nat.{le-trans}
-use lib.IntN.{ℤ, natAbs}
+use lib.IntN.{ℤ}
 use lib.ListN.{length, getD}
 use Rattle.model.specs.Range.{sum, sumℤ}
 use Rattle.model.specs.Sheet.{no-term}

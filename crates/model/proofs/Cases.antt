@@ -1,8 +1,8 @@
 -- Every case of the table holds, by computation. Assumes nothing.
-use mathlib.Core.Path.{_≡_, refl}
+use mathlib.Core.Path.{refl}
 use Rattle.rounding.specs.Rounding.{near, nearℕ, up}
 use Rattle.model.specs.Range.{sum, sumℤ, largest, every, tabulate, least, bytes}
-use Rattle.model.specs.Sheet.{scale, number, result, refusedStep, Gives, ask, _then_, inOrder, from_to_, ±_, within, most, n-limits, steps-limits, step-limits, tail-limits, tol-limits, start-limits, radius-limits, terms-limits, to-limits, coef-limits, first-limits, second-limits, inRange, startVerdict, quantityVerdict, termVerdict, no-quantity, no-term, sheetVerdict, padded, no-sheet}
+use Rattle.model.specs.Sheet.{scale, number, result, refusedStep, ask, _then_, inOrder, from_to_, ±_, within, most, n-limits, steps-limits, step-limits, tail-limits, tol-limits, start-limits, radius-limits, terms-limits, to-limits, coef-limits, first-limits, second-limits, inRange, startVerdict, quantityVerdict, termVerdict, no-quantity, no-term, sheetVerdict, padded, no-sheet}
 use Rattle.model.specs.Reading.{isDigit, digits, natural, negated, signed, after, ended, line, return, _>>=_, times, faults, field, signedField, start, quantity, term, end, sheet, accepted, most-bytes, readSheet}
 use Rattle.model.specs.Exact.{bringsℤ}
 use Rattle.model.specs.Step.{no-ball, reach, greatest, factors, brings, coefOf, coefs, size, ratio, majorant, tailAt, degree, coefficient, factor, productRadius, products, times as times-step, share, nextCoefficient, coefficientsTo, newBall, newRow, stepRow}

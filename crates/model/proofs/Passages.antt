@@ -6,7 +6,7 @@ use mathlib.Core.Bool.{Bool, true, false}
 use mathlib.Core.List.{List, [], _∷_, _++_, map, append-assoc}
 use native.Mathlib.Omega.{arith}
 use native.Mathlib.Nat.{zero-mul, suc-mul}
-use borrow.Author.Tests.{le-leb, lt-leb}
+use borrow.Author.Tests.{le-leb, lt-leb, leb-true, leb-false}
 use lib.IntN.{ℤ, pos, natAbs}
 use lib.Dec.{leb}
 use lib.ListN.{length, getD, drop, length-append, length-map, length-drop, List·getD-append, List·getD-map}
@@ -187,21 +187,6 @@ rows-of-run sheet =
     few (all e) = omega arith
     few (stopped _ _ e l h) = omega arith
 
-pub rows-of-passage : (sheet : Sheet) (places : ℕ) → Rows sheet (passage sheet places)
-unfolding passage refused rowsWritten
-rows-of-passage sheet places = judged (sheetVerdict sheet)
-  where
-    no-rows : (r : Refusal) → Rows sheet (refused r 0)
-    no-rows r = record { wide = none; count = refl; fits = omega arith }
-
-    lent : (enough : Bool) → Rows sheet (elim enough [ true ↦ run sheet | false ↦ refused TooFewPlaces 0 ])
-    lent true = rows-of-run sheet
-    lent false = no-rows TooFewPlaces
-
-    judged : (v : Verdict) → Rows sheet (elim v [ refuses r ↦ refused r 0 | passes ↦ elim (leb (placesNeeded sheet) places) [ true ↦ run sheet | false ↦ refused TooFewPlaces 0 ] ])
-    judged (refuses r) = no-rows r
-    judged passes = lent (leb (placesNeeded sheet) places)
-
 -- ---- the questions before step 1
 
 module _ (sheet : Sheet) (lent : ℕ) where
@@ -216,3 +201,18 @@ module _ (sheet : Sheet) (lent : ℕ) where
   pub passage-runs : sheetVerdict sheet ≡ passes → placesNeeded sheet ≤ lent → passage sheet lent ≡ run sheet
   unfolding passage
   passage-runs e room = rw (e, passage, le-leb (placesNeeded sheet) lent room)
+
+  -- what holds of a refusal before step 1, and of the run of a sheet that passes with places enough, holds of the passage
+  pub passage-either : (P : Run → Type 0) → ((r : Refusal) → P (refused r 0)) → (sheetVerdict sheet ≡ passes → placesNeeded sheet ≤ lent → P (run sheet)) → P (passage sheet lent)
+  passage-either P before runs = judged (sheetVerdict sheet) (leb (placesNeeded sheet) lent) refl refl
+    where
+      judged : (v : Verdict) (room : Bool) → sheetVerdict sheet ≡ v → leb (placesNeeded sheet) lent ≡ room → P (passage sheet lent)
+      judged (refuses r) room e l = rw (passage-refused e) (before r)
+      judged passes true e l = let enough = leb-true (placesNeeded sheet) lent l in rw (passage-runs e enough) (runs e enough)
+      judged passes false e l = rw (passage-too-few-places e (leb-false (placesNeeded sheet) lent l)) (before TooFewPlaces)
+
+pub rows-of-passage : (sheet : Sheet) (places : ℕ) → Rows sheet (passage sheet places)
+rows-of-passage sheet places = passage-either sheet places (Rows sheet) no-rows (λ e room. rows-of-run sheet)
+  where
+    no-rows : (r : Refusal) → Rows sheet (refused r 0)
+    no-rows r = unfold refused rowsWritten in record { wide = none; count = refl; fits = omega arith }

@@ -1,6 +1,6 @@
 -- A sheet whose verdict passes, and a step whose questions 4 and 5 are answered yes, give what the bounds on the working numbers rest on.
 -- Assumes nothing.
-use Prim.Native.Nat.{ℕ, zero, suc, _*_, _≤_, _<_}
+use Prim.Native.Nat.{ℕ, zero, suc, _≤_, _<_}
 use mathlib.Core.Bool.{true, false≢true}
 use mathlib.Core.List.{List}
 use mathlib.Core.Path.{_≡_, refl}
@@ -13,7 +13,6 @@ use lib.IntN.{ℤ, pos, negsuc, natAbs}
 use lib.ListN.{length, getD, length-take, List·getD-eq-default}
 use lib.Seq.{getD-take}
 use lib.Signed.{leZ}
-use Rattle.model.specs.Range.{sum}
 use Rattle.model.specs.Sheet.{passes, Limits, from_to_, ±_, within, inRange, sheetVerdict, no-term, scale, most, step-limits, terms-limits, to-limits, first-limits, coef-limits, second-limits}
 use Rattle.model.specs.Step.{Ball, no-ball, reach, greatest, ratio}
 use Rattle.model.specs.Passage.{termsOf, small, slow, most-ratio}

@@ -10,17 +10,18 @@ use borrow.Author.Tests.{leb-true}
 use lib.Dec.{leb}
 use lib.IntN.{ℤ}
 use lib.ListN.{length, getD}
-use Rattle.model.specs.Sheet.{scale, Verdict, passes, refuses, sheetVerdict}
+use Rattle.model.specs.Sheet.{scale, passes, sheetVerdict}
 use Rattle.model.specs.Exact.{State, exactSum}
 use Rattle.model.specs.Step.{Ball, no-ball, Row, stepRow}
-use Rattle.model.specs.Passage.{Advance, moves, stops, question, small, slow, tolerable, tolerated, advance, Run, refused, goOn, follow, termsOf, startsOf, placesNeeded, run, passage}
+use Rattle.model.specs.Passage.{Advance, moves, stops, question, small, slow, tolerable, tolerated, advance, Run, refused, goOn, follow, termsOf, startsOf, run, passage}
 use Rattle.model.specs.Trust.{LiesWithin, Tolerated, stateAfter, NoLower, Trusted}
 use Rattle.model.specs.declared.Refusal.{Refusal}
-use Rattle.model.specs.declared.Refusal.the-variants.{TooFewPlaces, TooLarge, TooFast, Intolerable}
+use Rattle.model.specs.declared.Refusal.the-variants.{TooLarge, TooFast, Intolerable}
 use Rattle.model.specs.declared.Sheet.{Sheet}
 use Rattle.model.specs.declared.Term.{Term}
 use Rattle.model.proofs.Enclosed.{step-encloses}
 use Rattle.model.proofs.Majorant.{WellFormed}
+use Rattle.model.proofs.Passages.{passage-either}
 use Rattle.model.proofs.SheetBounds.{bounds-of-sheet}
 use Rattle.model.proofs.Verdicts.{every-holds}
 
@@ -103,16 +104,6 @@ run-trusted sheet e =
 
 -- Demand 3, of every sheet, with any number of places lent.
 pub passage-trusted : (sheet : Sheet) (places : ℕ) → Trusted (termsOf sheet) (sheet .step) (sheet .tol) (startsOf sheet) (passage sheet places .rows)
-unfolding passage refused
-passage-trusted sheet places = judged (sheetVerdict sheet) (leb (placesNeeded sheet) places) refl
-  where
-    none : Trusted (termsOf sheet) (sheet .step) (sheet .tol) (startsOf sheet) []
-    none = no-rows-trusted (termsOf sheet) (sheet .step) (sheet .tol) (startsOf sheet)
-
-    answered : Verdict → Bool → Run
-    answered verdict enough = elim verdict [ refuses r ↦ refused r 0 | passes ↦ elim enough [ true ↦ run sheet | false ↦ refused TooFewPlaces 0 ] ]
-
-    judged : (verdict : Verdict) (enough : Bool) → sheetVerdict sheet ≡ verdict → Trusted (termsOf sheet) (sheet .step) (sheet .tol) (startsOf sheet) (answered verdict enough .rows)
-    judged (refuses r) enough e = none
-    judged passes true e = run-trusted sheet e
-    judged passes false e = none
+unfolding refused
+passage-trusted sheet places =
+    passage-either sheet places (λ run. Trusted (termsOf sheet) (sheet .step) (sheet .tol) (startsOf sheet) (run .rows)) (λ r. no-rows-trusted (termsOf sheet) (sheet .step) (sheet .tol) (startsOf sheet)) (λ e room. run-trusted sheet e)

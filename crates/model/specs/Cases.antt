@@ -36,7 +36,7 @@ pub data Case : Type 0 where
   ends : String → ℕ → ℕ → Case
   -- a sheet is read, and with so many places its passage ends with a result
   lent : String → ℕ → ℕ → Case
-  -- a sheet given as numbers is refused before its places are counted, and before step 1
+  -- a sheet given as numbers, with no places lent, is refused by this number, before step 1
   judged : Sheet → ℕ → Case
   nearIs : ℤ → ℕ → ℤ → Case
   upIs : ℕ → ℕ → ℕ → Case

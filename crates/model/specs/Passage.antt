@@ -131,7 +131,7 @@ places (row ∷ rows) = rowPlaces row ++ places rows
 unfoldable pub written : List Row → List ℤ → List ℤ
 written rows buffer = places rows ++ drop (length (places rows)) buffer
 
--- so many steps from `start` have come to an outcome, and of a buffer lent, which was `before` them, their rows have made `after`
+-- so many steps from `start` have come to this outcome, and a buffer that held `before` holds their rows, and is `after`
 pub record Finished (terms : List Term) (H : ℤ) (limit tol steps : ℕ) (start : List Ball) (before : List ℤ) (outcome : Outcome) (after : List ℤ) : Type 0 where
   pub answer : outcome ≡ follow terms H limit tol steps 1 start .outcome
   pub stored : after ≡ written (follow terms H limit tol steps 1 start .rows) before

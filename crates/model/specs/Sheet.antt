@@ -152,7 +152,7 @@ termVerdict n term =
     inRange (first-limits n) (pos (term .first)) then
     inRange (second-limits n (term .first)) (pos (term .second))
 
--- what a list reads as past its end, where no sheet has its counts
+-- what a list reads as past its end; the counts of a sheet that is in range do not lead there
 unfoldable pub no-quantity : Quantity
 no-quantity = record { start = Reading (pos 0); radius = 0 }
 

@@ -25,7 +25,6 @@ use Rattle.taylor.specs.Step.{laidOut, rowLaidOut, answered}
 use Rattle.taylor.specs.declared.step.Balls.{Balls}
 use Rattle.taylor.specs.declared.step.Row.{Row}
 use Rattle.taylor.specs.declared.step.Advance.the-variants.{Moves, Stops}
-use Rattle.taylor.specs.declared.step.Stepped.{Stepped}
 use Rattle.taylor.proofs.Balls.{length-balls, getD-balls, greatest-is}
 use Rattle.taylor.proofs.LaidOut.{balls-laid-out, length-row}
 

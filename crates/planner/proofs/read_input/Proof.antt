@@ -1,7 +1,6 @@
 -- `planner::read_input` meets its contract: it ends, and reads no further than the buffer. Assumes nothing.
 use Prim.Native.Nat.{_-_, _≤_}
 use mathlib.Core.Path.{_≡_}
-use native.Mathlib.Omega.{arith}
 use lib.ListN.{length}
 use borrow.Author.Needs.{needs}
 use Rattle.planner.proofs.read_input.Statement.{statement}
