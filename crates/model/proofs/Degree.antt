@@ -10,7 +10,7 @@ use lib.Dec.{leb}
 use Rattle.rounding.proofs.Roundings.{up-is-least}
 use Rattle.model.specs.Range.{least}
 use Rattle.model.specs.Sheet.{scale, most}
-use Rattle.model.specs.Step.{majorant, tailAt, degree}
+use Rattle.model.specs.Step.{most-degree, majorant, tailAt, degree}
 use Rattle.model.specs.Passage.{most-ratio}
 use Rattle.model.proofs.Reach.{scale-positive, up-close}
 
@@ -71,9 +71,9 @@ module _ (G : ℕ) {q : ℕ} (slow : q ≤ most-ratio) where
   majorant-scaled zero = omega arith
   majorant-scaled (suc j) = rw (two-pow-succ j) (omega (arith, majorant-scaled j, mul-le-mul-left (2 ^ j) (majorant-halves j)))
 
-  pub majorant-vanishes : G ≤ most → majorant G q 29 ≤ 1
+  pub majorant-vanishes : G ≤ most → majorant G q (most-degree + 1) ≤ 1
   unfolding most
-  majorant-vanishes h = omega (arith, majorant-scaled 29)
+  majorant-vanishes h = omega (arith, majorant-scaled (most-degree + 1))
 
   pub tail-le : (k : ℕ) → tailAt G q k ≤ 2 * majorant G q (suc k)
   unfolding tailAt most-ratio scale
@@ -83,8 +83,8 @@ module _ (G : ℕ) {q : ℕ} (slow : q ≤ most-ratio) where
       half : scale ≤ 2 * (scale - q)
       half = omega (arith, slow)
 
-  pub tail-vanishes : G ≤ most → tailAt G q 28 ≤ 2
-  tail-vanishes h = omega (arith, tail-le 28, majorant-vanishes h)
+  pub tail-vanishes : G ≤ most → tailAt G q most-degree ≤ 2
+  tail-vanishes h = omega (arith, tail-le most-degree, majorant-vanishes h)
 
 -- ---- the degree
 
@@ -92,7 +92,7 @@ module _ (G : ℕ) {q : ℕ} (slow : q ≤ most-ratio) where
 pub record IsDegree (G q limit k : ℕ) : Type 0 where
   pub within : tailAt G q k ≤ limit
   pub none-before : (j : ℕ) → j < k → limit < tailAt G q j
-  pub at-most : k ≤ 28
+  pub at-most : k ≤ most-degree
 
 pub degree-is-least : (G : ℕ) {q limit : ℕ} → G ≤ most → q ≤ most-ratio → 2 ≤ limit → IsDegree G q limit (degree G q limit)
 unfolding degree
@@ -100,9 +100,9 @@ degree-is-least G {q} {limit} small slow h =
     record {
       within = leb-true (tailAt G q (degree G q limit)) limit (found .passes);
       none-before = λ j l. leb-false (tailAt G q j) limit (found .none-before j l);
-      at-most = least-le 28 (λ k. leb (tailAt G q k) limit);
+      at-most = least-le most-degree (λ k. leb (tailAt G q k) limit);
     }
   where
     found : IsLeast (λ k. leb (tailAt G q k) limit) (degree G q limit)
     found =
-        least-is-least 28 (λ k. leb (tailAt G q k) limit) 28 (le-refl 28) (le-leb (tailAt G q 28) limit (le-trans (tail-vanishes G slow small) h))
+        least-is-least most-degree (λ k. leb (tailAt G q k) limit) most-degree (le-refl most-degree) (le-leb (tailAt G q most-degree) limit (le-trans (tail-vanishes G slow small) h))

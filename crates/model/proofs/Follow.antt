@@ -9,13 +9,13 @@ use lib.IntN.{ℤ}
 use lib.ListN.{length, length-append}
 use lib.Seq.{sets, length-sets}
 use Rattle.model.specs.Step.{Ball, Row}
-use Rattle.model.specs.Passage.{Advance, moves, stops, advance, Run, refused, goOn, follow, width, rowPlaces, places, Finished}
+use Rattle.model.specs.Passage.{Advance, moves, stops, advance, Run, refused, goOn, follow, Kept}
+use Rattle.model.specs.Rows.{width, rowPlaces, places}
 use Rattle.model.specs.declared.Term.{Term}
 use Rattle.model.specs.declared.Refusal.{Refusal}
 use Rattle.model.specs.declared.Outcome.{Outcome}
 use Rattle.model.specs.declared.Outcome.the-variants.{Accepted, Refused}
-use Rattle.model.proofs.Passages.{Wide, none, row-first, places-length}
-use Rattle.model.proofs.Stores.{written-is-sets, sets-one-row-more}
+use Rattle.model.proofs.Rows.{Wide, none, row-first, places-length, written-is-sets, sets-one-row-more}
 
 wide-one-more : {n : ℕ} {rows : List Row} (row : Row) → Wide n rows → length (row .balls) ≡ n → Wide n (rows ++ (row ∷ []))
 wide-one-more row none h = row-first h none
@@ -64,12 +64,12 @@ module _ {terms : List Term} {H : ℤ} {limit tol : ℕ} where
       omega (arith, underway-length u, mul-le-mul-right (width n) h, suc-mul done (width n))
 
   -- nothing is ahead but an outcome
-  ended : {steps n : ℕ} {start : List Ball} {buffer held : List ℤ} {done : ℕ} {balls : List Ball} (outcome : Outcome) → Underway terms H limit tol steps n start buffer done balls held → steps * width n ≤ length buffer → follow terms H limit tol (steps - done) (suc done) balls ≡ record { rows = []; outcome = outcome } → Finished terms H limit tol steps start buffer outcome held
+  ended : {steps n : ℕ} {start : List Ball} {buffer held : List ℤ} {done : ℕ} {balls : List Ball} (outcome : Outcome) → Underway terms H limit tol steps n start buffer done balls held → steps * width n ≤ length buffer → follow terms H limit tol (steps - done) (suc done) balls ≡ record { rows = []; outcome = outcome } → Kept (follow terms H limit tol steps 1 start) buffer held outcome
   unfolding after
   ended {steps} {n} {start} {buffer} outcome u room e =
       record {
         answer = ap (λ (run : Run). run .outcome) (sym run);
-        stored = rw run (u .stored ∙ sym (written-is-sets (u .rows) buffer fits));
+        buffer = rw run (u .stored ∙ sym (written-is-sets (u .rows) buffer fits));
       }
     where
       run : follow terms H limit tol steps 1 start ≡ record { rows = u .rows; outcome = outcome }
@@ -90,12 +90,12 @@ module _ {terms : List Term} {H : ℤ} {limit tol : ℕ} where
         stored = rw (u .stored, ← (places-done u), ← (sets-one-row-more buffer (u .rows) row));
       }
 
-  pub finished-by-refusal : {steps n : ℕ} {start : List Ball} {buffer held : List ℤ} {done : ℕ} {balls : List Ball} (r : Refusal) → Underway terms H limit tol steps n start buffer done balls held → steps * width n ≤ length buffer → done < steps → advance terms H limit tol balls ≡ stops r → Finished terms H limit tol steps start buffer (Refused r (done + 1)) held
+  pub finished-by-refusal : {steps n : ℕ} {start : List Ball} {buffer held : List ℤ} {done : ℕ} {balls : List Ball} (r : Refusal) → Underway terms H limit tol steps n start buffer done balls held → steps * width n ≤ length buffer → done < steps → advance terms H limit tol balls ≡ stops r → Kept (follow terms H limit tol steps 1 start) buffer held (Refused r (done + 1))
   unfolding goOn refused
   finished-by-refusal {steps} {done = done} {balls = balls} r u room h e =
       ended (Refused r (done + 1)) u room (next-step terms H limit tol steps done balls (stops r) h e)
 
-  pub finished : {steps n : ℕ} {start : List Ball} {buffer held : List ℤ} {done : ℕ} {balls : List Ball} → Underway terms H limit tol steps n start buffer done balls held → steps * width n ≤ length buffer → steps ≤ done → Finished terms H limit tol steps start buffer Accepted held
+  pub finished : {steps n : ℕ} {start : List Ball} {buffer held : List ℤ} {done : ℕ} {balls : List Ball} → Underway terms H limit tol steps n start buffer done balls held → steps * width n ≤ length buffer → steps ≤ done → Kept (follow terms H limit tol steps 1 start) buffer held Accepted
   unfolding follow
   finished {steps} {done = done} u room h = ended Accepted u room (rw none-left)
     where

@@ -2,16 +2,17 @@
 -- Assumes nothing.
 use Prim.Native.Nat.{ℕ, zero, suc, _+_, _-_, _*_, _/_, _%_, _≤_, _<_}
 use Prim.Native.Char.{code}
-use mathlib.Core.Path.{_≡_, refl, sym}
+use mathlib.Core.Path.{_≡_, refl, sym, ap, _∙_}
 use mathlib.Core.Bool.{true}
 use mathlib.Core.Logic.{_≢_}
 use mathlib.Core.List.{List, [], _∷_, _++_}
 use native.Mathlib.Omega.{arith}
 use native.Mathlib.Decide.{decLt}
+use lib.IntN.{pos}
 use lib.ListN.{length, getD, length-append, List·getD-append}
 use borrow.Author.Tests.{lt-ltb, le-ltb, le-leb}
 use Rattle.model.specs.Reading.{isDigit}
-use Rattle.model.specs.Answer.{digit, decimalBy}
+use Rattle.model.specs.Answer.{digit, decimalBy, decimal}
 
 -- one digit, and one digit more
 short : (fuel : ℕ) {n : ℕ} → n < 10 → decimalBy fuel n ≡ digit n ∷ []
@@ -45,6 +46,16 @@ fuel-is-free fuel other n h k = decimal-induction Same one more fuel n h other k
     more : (n : ℕ) (text : List ℕ) → 10 ≤ n → Same (n / 10) text → Same n (text ++ (digit (n % 10) ∷ []))
     more n text l same zero k = absurd (omega arith)
     more n text l same (suc other) k = rw (long other l, same other (omega arith))
+
+pub decimal-digit : (n : ℕ) → n < 10 → decimal (pos n) ≡ digit n ∷ []
+unfolding decimal
+decimal-digit n h = short n h
+
+pub decimal-digits : (n : ℕ) → 10 ≤ n → decimal (pos n) ≡ decimal (pos (n / 10)) ++ (digit (n % 10) ∷ [])
+unfolding decimal
+decimal-digits zero h = absurd (omega arith)
+decimal-digits (suc m) h =
+    long m h ∙ ap (λ (front : List ℕ). front ++ (digit (suc m % 10) ∷ [])) (fuel-is-free m (suc m / 10) (suc m / 10) (omega arith) (omega arith))
 
 -- the number that digits spell, after those that spell `front`
 unfoldable pub spells : ℕ → List ℕ → ℕ

@@ -10,9 +10,9 @@ use native.Mathlib.Omega.{arith}
 use lib.IntN.{ℤ, natAbs}
 use lib.ListN.{length, getD, List·getD-eq-default}
 use Rattle.model.specs.Range.{sum, sumℤ}
-use Rattle.model.specs.Sheet.{scale, most, no-term}
+use Rattle.model.specs.Sheet.{scale, most, no-term, most-terms}
 use Rattle.model.specs.Exact.{bringsℤ}
-use Rattle.model.specs.Step.{Ball, no-ball, reach, greatest, brings, ratio, Coefficients, coefficient, factor, share, nextCoefficient, coefficientsTo}
+use Rattle.model.specs.Step.{Ball, no-ball, reach, greatest, brings, Coefficients, coefficient, factor, share, nextCoefficient, coefficientsTo}
 use Rattle.model.specs.Passage.{most-ratio}
 use Rattle.model.specs.Bounds.{total, most-total, InBounds}
 use Rattle.model.specs.declared.Term.{Term}
@@ -59,7 +59,7 @@ module _ {terms : List Term} {H : ℤ} {balls : List Ball} (bounds : InBounds te
     shares-bounded i m h l =
         combine (greatest balls) _ (natAbs H * weightOf terms (greatest balls) (suc i)) _ _ (scale-le-greatest balls) (shares-weighed table k reaches H (scale-le-greatest balls) (λ j. getD terms j no-term) (bounds .sheet .formed) (suc i) m .bound) (mul-le-mul-left (natAbs H) (sum-partial _ (length terms) l)) (weight-halved i h) (le-trans (sum-partial _ (length terms) l) (bounds .sheet .total)) (le-trans l (bounds .sheet .count))
       where
-        combine : (g x y t v : ℕ) → scale ≤ g → 2 * (scale * scale * scale) * (g * v) ≤ suc k * ((2 * g + 5) * x) + 5 * (scale * scale) * (g * t) + 5 * (scale * scale * scale) * (g * m) → x ≤ y → 2 * y ≤ g * (scale * scale * scale) → t ≤ 32 * 268435456 → m ≤ 32 → 4 * v ≤ suc k * (2 * g + 5) + 5440
+        combine : (g x y t v : ℕ) → scale ≤ g → 2 * (scale * scale * scale) * (g * v) ≤ suc k * ((2 * g + 5) * x) + 5 * (scale * scale) * (g * t) + 5 * (scale * scale * scale) * (g * m) → x ≤ y → 2 * y ≤ g * (scale * scale * scale) → t ≤ most-total → m ≤ most-terms → 4 * v ≤ suc k * (2 * g + 5) + 5440
         combine g x y t v a e f p q r =
             le-of-mul-le-mul-left {k = g * (scale * scale * scale)} (omega (arith, e, mul-le-mul-left (suc k * (2 * g + 5)) f, mul-le-mul-left (suc k * (2 * g + 5)) p, mul-le-mul-left g q, mul-le-mul-left g r)) (omega (arith, a))
 

@@ -2,6 +2,8 @@ pub mod Cases
 pub mod Ranges
 pub mod Tables
 pub mod Fuel
+pub mod Stores
+pub mod Rows
 pub mod Passages
 pub mod Fractions
 pub mod Binomial
@@ -26,6 +28,6 @@ pub mod Enclosed
 pub mod ExactStates
 pub mod Trusted
 pub mod Counts
+pub mod Listed
 pub mod SheetBounds
-pub mod Stores
 pub mod Follow

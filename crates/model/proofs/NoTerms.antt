@@ -11,10 +11,10 @@ use lib.ListN.{length, getD, replicate}
 use borrow.Author.Tests.{le-leb}
 use Rattle.rounding.specs.Rounding.{up}
 use Rattle.rounding.proofs.Roundings.{up-is-least}
-use Rattle.model.specs.Range.{sum, sumℤ, largest, least}
-use Rattle.model.specs.Sheet.{scale, sheetVerdict, passes}
+use Rattle.model.specs.Range.{sum, sumℤ, largest, tabulate, least}
+use Rattle.model.specs.Sheet.{scale, sheetVerdict, passes, listed, termsOf, startsOf}
 use Rattle.model.specs.Step.{Ball, no-ball, greatest, size, coefs, ratio, majorant, tailAt, degree, coefficient, coefficientsTo, Row, newBall, newRow, stepRow}
-use Rattle.model.specs.Passage.{moves, question, small, slow, most-ratio, tolerable, tolerated, advance, goOn, follow, termsOf, startsOf, placesNeeded, run, passage}
+use Rattle.model.specs.Passage.{moves, question, small, slow, most-ratio, tolerable, tolerated, advance, goOn, follow, placesNeeded, run, passage}
 use Rattle.model.specs.declared.Sheet.{Sheet}
 use Rattle.model.specs.declared.Outcome.the-variants.{Accepted}
 use Rattle.model.proofs.Reach.{scale-positive}
@@ -86,6 +86,6 @@ follow-without-terms H limit tol zero step balls s t = refl
 follow-without-terms H limit tol (suc steps) step balls s t = rw (advance-without-terms H limit tol balls s t, follow-without-terms H limit tol steps (suc step) balls s t)
 
 -- a sheet without terms: where question 4 passes and the radii are within `tol`, every row is of degree 0 with the start's values and radii
-pub passage-without-terms : (sheet : Sheet) (places : ℕ) → sheetVerdict sheet ≡ passes → placesNeeded sheet ≤ places → sheet .terms ≡ 0 → small (startsOf sheet) ≡ true → tolerable (sheet .tol) (startsOf sheet) ≡ true → passage sheet places ≡ record { rows = replicate (sheet .steps) (unmoved (startsOf sheet)); outcome = Accepted }
-unfolding passage run termsOf startsOf
-passage-without-terms sheet places v p none s t = rw (v, le-leb (placesNeeded sheet) places p, passage) (rw none (follow-without-terms (sheet .step) (sheet .tail) (sheet .tol) (sheet .steps) 1 (startsOf sheet) s t))
+pub passage-without-terms : (sheet : Sheet) (places : ℕ) → sheetVerdict sheet ≡ passes → placesNeeded sheet ≤ places → sheet .terms .count ≡ 0 → small (startsOf sheet) ≡ true → tolerable (sheet .head .tol) (startsOf sheet) ≡ true → passage sheet places ≡ record { rows = replicate (sheet .head .steps) (unmoved (startsOf sheet)); outcome = Accepted }
+unfolding passage run termsOf listed tabulate startsOf
+passage-without-terms sheet places v p none s t = rw (v, le-leb (placesNeeded sheet) places p, passage) (rw none (follow-without-terms (sheet .head .step) (sheet .head .tail) (sheet .head .tol) (sheet .head .steps) 1 (startsOf sheet) s t))

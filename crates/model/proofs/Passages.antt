@@ -1,129 +1,24 @@
--- A passage's rows: how many there are, that each has the sheet's n quantities, and that they can be read back from the lent buffer, whose
--- other places are unchanged. Assumes nothing.
-use Prim.Native.Nat.{ℕ, zero, suc, _+_, _-_, _*_, _≤_, _<_}
-use mathlib.Core.Path.{_≡_, refl, sym, ap, _∙_}
+-- A passage's rows: how many there are, and that each has the sheet's n quantities. Assumes nothing.
+use Prim.Native.Nat.{ℕ, zero, suc, _+_, _≤_, _<_}
+use mathlib.Core.Path.{_≡_, refl, ap}
 use mathlib.Core.Bool.{Bool, true, false}
-use mathlib.Core.List.{List, [], _∷_, _++_, map, append-assoc}
+use mathlib.Core.List.{List}
 use native.Mathlib.Omega.{arith}
-use native.Mathlib.Nat.{zero-mul, suc-mul}
 use borrow.Author.Tests.{le-leb, lt-leb, leb-true, leb-false}
-use lib.IntN.{ℤ, pos, natAbs}
+use lib.IntN.{ℤ}
 use lib.Dec.{leb}
-use lib.ListN.{length, getD, drop, length-append, length-map, length-drop, List·getD-append, List·getD-map}
-use lib.Seq.{getD-append-add, getD-drop}
-use Rattle.model.specs.Range.{tabulate}
-use Rattle.model.specs.Sheet.{Verdict, passes, refuses, sheetVerdict, number}
-use Rattle.model.specs.Step.{Ball, no-ball, Row, newRow, stepRow}
-use Rattle.model.specs.Passage.{Advance, moves, stops, question, small, slow, tolerable, tolerated, advance, Run, refused, goOn, follow, termsOf, startsOf, width, placesNeeded, run, passage, rowsWritten, rowPlaces, places, written, rowIn, rowsIn}
-use Rattle.model.specs.Trust.{no-row}
+use lib.ListN.{length}
+use Rattle.model.specs.Sheet.{Verdict, passes, refuses, sheetVerdict, number, termsOf, startsOf}
+use Rattle.model.specs.Step.{Ball, Row, newRow, stepRow}
+use Rattle.model.specs.Passage.{Advance, moves, stops, question, small, slow, tolerable, tolerated, advance, Run, refused, goOn, follow, placesNeeded, run, passage, rowsWritten}
 use Rattle.model.specs.declared.Term.{Term}
 use Rattle.model.specs.declared.Sheet.{Sheet}
 use Rattle.model.specs.declared.Refusal.{Refusal}
-use Rattle.model.specs.declared.Refusal.the-variants.{TooFewPlaces, TooLarge, TooFast, Intolerable}
+use Rattle.model.specs.declared.Refusal.the-variants.{TooFewPlaces, TooLarge, StepTooLong, Intolerable}
 use Rattle.model.specs.declared.Outcome.{Outcome}
 use Rattle.model.specs.declared.Outcome.the-variants.{Accepted, Refused}
-use Rattle.model.proofs.Ranges.{length-tabulate, tabulate-is}
-
--- every row has n quantities
-pub data Wide (n : ℕ) : List Row → Type 0 where
-  none : Wide n []
-  row-first : {row : Row} {rows : List Row} → length (row .balls) ≡ n → Wide n rows → Wide n (row ∷ rows)
-
--- ---- the buffer
-
-row-length : (row : Row) {n : ℕ} → length (row .balls) ≡ n → length (rowPlaces row) ≡ width n
-unfolding rowPlaces width
-row-length row h = simp (length-append, length-map) (omega arith)
-
-pub places-length : {n : ℕ} {rows : List Row} → Wide n rows → length (places rows) ≡ length rows * width n
-unfolding places
-places-length {n} none = sym (zero-mul (width n))
-places-length {n} (row-first {row = row} {rows = rows} h w) =
-    omega (arith, length-append (rowPlaces row) (places rows), row-length row h, places-length w, suc-mul (length rows) (width n))
-
--- row j + 1 behind a row's places is row j
-row-behind : (n : ℕ) (front rest : List ℤ) (j : ℕ) → length front ≡ width n → rowIn n (front ++ rest) (suc j) ≡ rowIn n rest j
-unfolding rowIn
-row-behind n front rest j h =
-    λ t. record {
-      degree = natAbs (moved (suc j * width n) (j * width n) (omega (arith, one-more)) t);
-      balls = tabulate n (λ i. record {
-        value = moved (suc j * width n + 1 + i) (j * width n + 1 + i) (omega (arith, one-more)) t;
-        radius = natAbs (moved (suc j * width n + 1 + n + i) (j * width n + 1 + n + i) (omega (arith, one-more)) t);
-      });
-    }
-  where
-    one-more : suc j * width n ≡ j * width n + width n
-    one-more = suc-mul j (width n)
-
-    moved : (k l : ℕ) → k ≡ length front + l → getD (front ++ rest) k (pos 0) ≡ getD rest l (pos 0)
-    moved k l e = rw e (getD-append-add front rest l (pos 0))
-
-row-in-front : (row : Row) (n : ℕ) (rest : List ℤ) → length (row .balls) ≡ n → rowIn n (rowPlaces row ++ rest) 0 ≡ row
-unfolding rowIn rowPlaces no-ball
-row-in-front row n rest h =
-    λ t. record {
-      degree = natAbs (at (0 * width n) 0 (omega (arith, no-rows)) t);
-      balls = tabulate-is n ball no-ball (row .balls) h (λ i k. λ t. record { value = value-at i k t; radius = natAbs (radius-at i k t) }) t;
-    }
-  where
-    values : List ℤ
-    values = map (λ ball. ball .value) (row .balls)
-
-    radii : List ℤ
-    radii = map (λ ball. pos (ball .radius)) (row .balls)
-
-    all : List ℤ
-    all = pos (row .degree) ∷ (values ++ radii) ++ rest
-
-    ball : ℕ → Ball
-    ball i = record { value = getD all (0 * width n + 1 + i) (pos 0); radius = natAbs (getD all (0 * width n + 1 + n + i) (pos 0)) }
-
-    no-rows : 0 * width n ≡ 0
-    no-rows = zero-mul (width n)
-
-    at : (k l : ℕ) → k ≡ l → getD all k (pos 0) ≡ getD all l (pos 0)
-    at k l e = ap (λ (i : ℕ). getD all i (pos 0)) e
-
-    values-length : length values ≡ n
-    values-length = simp length-map h
-
-    radii-length : length radii ≡ n
-    radii-length = simp length-map h
-
-    value-at : (i : ℕ) → i < n → getD all (0 * width n + 1 + i) (pos 0) ≡ getD (row .balls) i no-ball .value
-    value-at i k =
-        at (0 * width n + 1 + i) (suc i) (omega (arith, no-rows))
-        ∙ List·getD-append (values ++ radii) rest (pos 0) i (omega (arith, length-append values radii, values-length))
-        ∙ List·getD-append values radii (pos 0) i (omega (arith, values-length))
-        ∙ List·getD-map (λ ball. ball .value) (row .balls) i no-ball
-
-    radius-at : (i : ℕ) → i < n → getD all (0 * width n + 1 + n + i) (pos 0) ≡ pos (getD (row .balls) i no-ball .radius)
-    radius-at i k =
-        at (0 * width n + 1 + n + i) (suc (length values + i)) (omega (arith, no-rows, values-length))
-        ∙ List·getD-append (values ++ radii) rest (pos 0) (length values + i) (omega (arith, length-append values radii, values-length, radii-length))
-        ∙ getD-append-add values radii i (pos 0)
-        ∙ List·getD-map (λ ball. pos (ball .radius)) (row .balls) i no-ball
-
-pub rows-in-written : {n : ℕ} {rows : List Row} → Wide n rows → (buffer : List ℤ) → rowsIn n (length rows) (written rows buffer) ≡ rows
-unfolding rowsIn written places
-rows-in-written {n} {rows} w buffer = tabulate-is (length rows) (rowIn n (places rows ++ drop (length (places rows)) buffer)) no-row rows refl (λ j h. row-at w (drop (length (places rows)) buffer) j h)
-  where
-    row-at : {rows : List Row} → Wide n rows → (rest : List ℤ) (j : ℕ) → j < length rows → rowIn n (places rows ++ rest) j ≡ getD rows j no-row
-    row-at none rest j h = absurd (omega arith)
-    row-at (row-first {row = row} {rows = rows} l w) rest zero h = rw (append-assoc (rowPlaces row) (places rows) rest) (row-in-front row n (places rows ++ rest) l)
-    row-at (row-first {row = row} {rows = rows} l w) rest (suc j) h =
-        rw (append-assoc (rowPlaces row) (places rows) rest) (row-behind n (rowPlaces row) (places rows ++ rest) j (row-length row l) ∙ row-at w rest j (omega arith))
-
-pub written-length : (rows : List Row) (buffer : List ℤ) → length (places rows) ≤ length buffer → length (written rows buffer) ≡ length buffer
-unfolding written
-written-length rows buffer h = simp (length-append, length-drop) (omega arith)
-
-pub written-past : (rows : List Row) (buffer : List ℤ) (i : ℕ) (z : ℤ) → length (places rows) ≤ i → getD (written rows buffer) i z ≡ getD buffer i z
-unfolding written
-written-past rows buffer i z h =
-    let e : i ≡ length (places rows) + (i - length (places rows)) = omega arith in
-    rw e (getD-append-add (places rows) (drop (length (places rows)) buffer) (i - length (places rows)) z ∙ getD-drop (length (places rows)) buffer (i - length (places rows)) z)
+use Rattle.model.proofs.Ranges.{length-tabulate}
+use Rattle.model.proofs.Rows.{Wide, none, row-first}
 
 -- ---- the rows of a passage
 
@@ -150,7 +45,7 @@ asked false r h s = stops-at h
 steps : (terms : List Term) (H : ℤ) (limit tol : ℕ) (balls : List Ball) → Steps (length balls) (advance terms H limit tol balls)
 unfolding advance tolerated stepRow newRow number
 steps terms H limit tol balls =
-    asked (small balls) TooLarge (omega arith) (asked (slow terms H balls) TooFast (omega arith) (asked (tolerable tol (stepRow terms H limit balls .balls)) Intolerable (omega arith) (moves-on (length-tabulate (length balls) _))))
+    asked (small balls) TooLarge (omega arith) (asked (slow terms H balls) StepTooLong (omega arith) (asked (tolerable tol (stepRow terms H limit balls .balls)) Intolerable (omega arith) (moves-on (length-tabulate (length balls) _))))
 
 counts-one-more : {left step count : ℕ} {outcome : Outcome} → Counts left (suc step) count outcome → Counts (suc left) step (suc count) outcome
 counts-one-more (all e) = all (ap suc e)
@@ -169,21 +64,21 @@ follows terms H limit tol n (suc left) step balls l =
 
 -- a passage's rows: each of n quantities, as many as its outcome says, and never more than `steps`
 pub record Rows (sheet : Sheet) (run : Run) : Type 0 where
-  pub wide : Wide (sheet .n) (run .rows)
+  pub wide : Wide (sheet .head .n) (run .rows)
   pub count : length (run .rows) ≡ rowsWritten sheet (run .outcome)
-  pub fits : length (run .rows) ≤ sheet .steps
+  pub fits : length (run .rows) ≤ sheet .head .steps
 
 pub rows-of-run : (sheet : Sheet) → Rows sheet (run sheet)
 unfolding run startsOf rowsWritten
 rows-of-run sheet =
-    let f : Follows (sheet .n) (sheet .steps) 1 (run sheet) = follows (termsOf sheet) (sheet .step) (sheet .tail) (sheet .tol) (sheet .n) (sheet .steps) 1 (startsOf sheet) (length-tabulate (sheet .n) _) in
+    let f : Follows (sheet .head .n) (sheet .head .steps) 1 (run sheet) = follows (termsOf sheet) (sheet .head .step) (sheet .head .tail) (sheet .head .tol) (sheet .head .n) (sheet .head .steps) 1 (startsOf sheet) (length-tabulate (sheet .head .n) _) in
     record { wide = f .wide; count = counted (f .counts); fits = few (f .counts) }
   where
-    counted : {count : ℕ} {outcome : Outcome} → Counts (sheet .steps) 1 count outcome → count ≡ rowsWritten sheet outcome
+    counted : {count : ℕ} {outcome : Outcome} → Counts (sheet .head .steps) 1 count outcome → count ≡ rowsWritten sheet outcome
     counted (all e) = e
     counted (stopped _ _ e l h) = omega arith
 
-    few : {count : ℕ} {outcome : Outcome} → Counts (sheet .steps) 1 count outcome → count ≤ sheet .steps
+    few : {count : ℕ} {outcome : Outcome} → Counts (sheet .head .steps) 1 count outcome → count ≤ sheet .head .steps
     few (all e) = omega arith
     few (stopped _ _ e l h) = omega arith
 

@@ -14,15 +14,18 @@ use lib.Dec.{leb}
 use lib.ListN.{length, getD, take, replicate, length-append, length-replicate, List·getD-append}
 use borrow.Author.Tests.{lt-leb, eq-eqb}
 use Rattle.model.specs.Range.{bytes}
-use Rattle.model.specs.Reading.{Parsed, parsed, fault, return, _>>=_, signedField, start, quantity, term, sheet, accepted, most-bytes, readSheet, after}
-use Rattle.model.specs.Sheet.{number, Verdict, passes, _then_, inOrder, quantityVerdict, startVerdict, termVerdict, sheetVerdict, no-quantity, no-term, no-sheet, padded, ZeroPastCounts, n-limits, steps-limits, step-limits, tail-limits, tol-limits, start-limits, radius-limits, terms-limits, to-limits, coef-limits, first-limits, second-limits, from_to_}
+use Rattle.model.specs.Reading.{Parsed, parsed, fault, return, _>>=_, signedField, start, quantity, term, head, quantities, terms, body, sheet, accepted, readSheet, after}
+use Rattle.model.specs.Sheet.{most-bytes, most-quantities, most-terms, number, Verdict, passes, _then_, inOrder, headVerdict, quantityVerdict, quantitiesVerdict, startVerdict, termVerdict, termsVerdict, sheetVerdict, no-quantity, no-term, no-sheet, padded, quantitiesHeld, termsHeld, ZeroPastCounts, n-limits, steps-limits, step-limits, tail-limits, tol-limits, start-limits, radius-limits, terms-limits, to-limits, coef-limits, first-limits, second-limits, from_to_}
 use Rattle.model.specs.declared.Refusal.{Refusal}
 use Rattle.model.specs.declared.Refusal.the-variants.{Oversized, NoReading}
 use Rattle.model.specs.declared.Start.{Start}
 use Rattle.model.specs.declared.Start.the-variants.{Reading, Missing}
+use Rattle.model.specs.declared.Quantity.{Quantity}
+use Rattle.model.specs.declared.Term.{Term}
+use Rattle.model.specs.declared.Terms.{Terms}
 use Rattle.model.specs.declared.Sheet.{Sheet}
 use Rattle.model.specs.declared.Outcome.the-variants.{Accepted, Refused}
-use Rattle.model.proofs.Verdicts.{refusal-not-passes, in-range, sheet-in-range, both-pass}
+use Rattle.model.proofs.Verdicts.{refusal-not-passes, in-range, few-quantities, sheet-in-range, both-pass}
 use Rattle.model.proofs.Ranges.{below, before-or-past}
 use Rattle.model.proofs.Parsers.{Delivers, delivers, faulty, Yields, Each, yields-return, yields-then, yields-times, yields-end, yields-field, yields-signed}
 
@@ -95,30 +98,63 @@ all-pass (suc n) h = then-passes (all-pass n (below n h)) (h n (omega arith))
 -- an accepted sheet: every field in its range, every start a number, its lists as long as they are declared, and 0 past its counts
 pub record Acceptable (sheet : Sheet) : Type 0 where
   pub verdict : sheetVerdict sheet ≡ passes
-  pub quantities : length (sheet .quantity) ≡ 8
-  pub terms : length (sheet .term) ≡ 32
+  pub quantities : length (sheet .quantities) ≡ most-quantities
+  pub terms : length (sheet .terms .list) ≡ most-terms
   pub zeros : ZeroPastCounts sheet
 
-yields-sheet : Yields Acceptable sheet
-unfolding sheet sheetVerdict n-limits steps-limits step-limits tail-limits tol-limits terms-limits from_to_
-yields-sheet =
+-- what a head that is read passes
+pub yields-head : Yields (λ x. headVerdict x ≡ passes) head
+unfolding head headVerdict n-limits steps-limits step-limits tail-limits tol-limits from_to_
+yields-head =
     yields-then (yields-field "n" n-limits refl) (λ n a.
     yields-then (yields-field "steps" steps-limits refl) (λ steps b.
     yields-then (yields-field "step" step-limits refl) (λ step c.
     yields-then (yields-field "tail" tail-limits refl) (λ tail d.
     yields-then (yields-field "tol" tol-limits refl) (λ tol e.
-    yields-then (yields-times n yields-quantity) (λ quantities f.
+    yields-return _ (then-passes a (then-passes b (then-passes c (then-passes d e)))))))))
+
+record QuantitiesRead (n : ℕ) (quantities : List Quantity) : Type 0 where
+  verdict : quantitiesVerdict n quantities ≡ passes
+  size-is : length quantities ≡ most-quantities
+  past : quantities ≡ quantitiesHeld (take n quantities)
+
+yields-quantities : {n : ℕ} → n ≤ most-quantities → Yields (QuantitiesRead n) (quantities n)
+unfolding quantities quantitiesVerdict quantitiesHeld
+yields-quantities {n} fits =
+    yields-then (yields-times n yields-quantity) (λ list f.
+    let q = each-padded most-quantities no-quantity fits f in
+    yields-return _ (record { verdict = all-pass n (q .each); size-is = q .size-is; past = q .past }))
+
+record TermsRead (n : ℕ) (terms : Terms) : Type 0 where
+  verdict : termsVerdict n terms ≡ passes
+  size-is : length (terms .list) ≡ most-terms
+  past : terms ≡ termsHeld (terms .count) (take (terms .count) (terms .list))
+
+yields-terms : (n : ℕ) → Yields (TermsRead n) (terms n)
+unfolding terms termsVerdict termsHeld terms-limits from_to_
+yields-terms n =
     yields-then (yields-field "terms" terms-limits refl) (λ count g.
-    yields-then (yields-times count (yields-term n)) (λ terms h.
-    let q : Filled (λ x. quantityVerdict x ≡ passes) 8 n no-quantity (padded 8 no-quantity quantities) = each-padded 8 no-quantity (in-range n a .1) f in
-    let t : Filled (λ x. termVerdict n x ≡ passes) 32 count no-term (padded 32 no-term terms) = each-padded 32 no-term (in-range count g .1) h in
+    yields-then (yields-times count (yields-term n)) (λ list h.
+    let t = each-padded most-terms no-term (in-range count g .1) h in
+    yields-return _ (record {
+      verdict = then-passes g (all-pass count (t .each));
+      size-is = t .size-is;
+      past = ap (λ (list : List Term). record { count = count; list = list }) (t .past);
+    })))
+
+yields-sheet : Yields Acceptable sheet
+unfolding sheet body sheetVerdict
+yields-sheet =
+    yields-then yields-head (λ head a.
+    yields-then (yields-quantities (few-quantities head a)) (λ quantities q.
+    yields-then (yields-terms (head .n)) (λ terms t.
     yields-end _
     (record {
-      verdict = then-passes a (then-passes b (then-passes c (then-passes d (then-passes e (then-passes (all-pass n (q .each)) (then-passes g (all-pass count (t .each))))))));
+      verdict = then-passes a (then-passes (q .verdict) (t .verdict));
       quantities = q .size-is;
       terms = t .size-is;
       zeros = record { quantities = q .past; terms = t .past };
-    })))))))))
+    }))))
 
 -- ---- the theorems
 
@@ -168,9 +204,9 @@ read-from-front room text enough = ⊎-elim long short (before-or-past room (len
     short : length text ≤ room → readSheet (take room text) ≡ readSheet text
     short h = ap readSheet (take-all room text h)
 
-pub starts-are-readings : (sheet : Sheet) → sheetVerdict sheet ≡ passes → (i : ℕ) → i < sheet .n → (z : ℤ) × (getD (sheet .quantity) i no-quantity .start ≡ Reading z)
+pub starts-are-readings : (sheet : Sheet) → sheetVerdict sheet ≡ passes → (i : ℕ) → i < sheet .head .n → (z : ℤ) × (getD (sheet .quantities) i no-quantity .start ≡ Reading z)
 unfolding quantityVerdict startVerdict
-starts-are-readings sheet h i l = reading (getD (sheet .quantity) i no-quantity .start) (both-pass _ _ (sheet-in-range sheet h .quantity i l) .0)
+starts-are-readings sheet h i l = reading (getD (sheet .quantities) i no-quantity .start) (both-pass _ _ (sheet-in-range sheet h .quantity i l) .0)
   where
     reading : (x : Start) → startVerdict x ≡ passes → (z : ℤ) × (x ≡ Reading z)
     reading (Reading z) e = (z, refl)

@@ -4,22 +4,22 @@ use Prim.Native.Nat.{ℕ, zero, suc, _≤_, _<_}
 use mathlib.Core.Bool.{true, false≢true}
 use mathlib.Core.List.{List}
 use mathlib.Core.Path.{_≡_, refl}
-use native.Mathlib.Nat.{le-trans, mul-le-mul-right, min-le-left}
+use native.Mathlib.Nat.{le-trans, mul-le-mul-right}
 use native.Mathlib.Decide.{decLt}
 use native.Mathlib.Omega.{arith}
 use borrow.Author.Tests.{leb-true}
 use lib.Dec.{leb}
 use lib.IntN.{ℤ, pos, negsuc, natAbs}
-use lib.ListN.{length, getD, length-take, List·getD-eq-default}
-use lib.Seq.{getD-take}
+use lib.ListN.{length, getD, List·getD-eq-default}
 use lib.Signed.{leZ}
-use Rattle.model.specs.Sheet.{passes, Limits, from_to_, ±_, within, inRange, sheetVerdict, no-term, scale, most, step-limits, terms-limits, to-limits, first-limits, coef-limits, second-limits}
+use Rattle.model.specs.Sheet.{passes, Limits, from_to_, ±_, within, inRange, sheetVerdict, no-term, scale, most, most-terms, most-coef, step-limits, terms-limits, to-limits, first-limits, coef-limits, second-limits, termsOf, most-quantities, most-steps, n-limits, steps-limits, tail-limits, tol-limits}
 use Rattle.model.specs.Step.{Ball, no-ball, reach, greatest, ratio}
-use Rattle.model.specs.Passage.{termsOf, small, slow, most-ratio}
+use Rattle.model.specs.Passage.{small, slow, most-ratio}
 use Rattle.model.specs.declared.Refusal.the-variants.{OutOfRange}
 use Rattle.model.specs.declared.Sheet.{Sheet}
 use Rattle.model.specs.declared.Term.{Term}
 use Rattle.model.proofs.Ranges.{sum-le, sum-constant}
+use Rattle.model.proofs.Listed.{length-listed, getD-listed}
 use Rattle.model.specs.Bounds.{total, most-total, TermsInBounds, InBounds}
 use Rattle.model.proofs.Verdicts.{answered-yes, both-true, every-holds, in-range, TermInRange, SheetInRange, sheet-in-range}
 
@@ -54,46 +54,73 @@ second-at-most n zero second e = omega (arith, in-range {low = 0} {high = 0} sec
 second-at-most n (suc first) second e = in-range second e .1
 
 module _ (sheet : Sheet) (ranges : SheetInRange sheet) where
-  terms-at-most : length (termsOf sheet) ≤ 32
-  unfolding termsOf terms-limits
-  terms-at-most =
-      rw (length-take (sheet .terms) (sheet .term)) (le-trans (min-le-left (sheet .terms) (length (sheet .term))) (in-range (sheet .terms) (ranges .terms) .1))
+  count-is : length (termsOf sheet) ≡ sheet .terms .count
+  unfolding termsOf
+  count-is = length-listed (sheet .terms)
 
-  pub term-of-sheet : (j : ℕ) → j < length (termsOf sheet) → TermInRange (sheet .n) (getD (termsOf sheet) j no-term)
+  terms-at-most : length (termsOf sheet) ≤ most-terms
+  unfolding terms-limits
+  terms-at-most = rw count-is (in-range (sheet .terms .count) (ranges .terms) .1)
+
+  pub term-of-sheet : (j : ℕ) → j < length (termsOf sheet) → TermInRange (sheet .head .n) (getD (termsOf sheet) j no-term)
   unfolding termsOf
   term-of-sheet j h =
-      let taken : j < sheet .terms = omega (arith, rw (length-take (sheet .terms) (sheet .term)) at h) in
-      rw (getD-take (sheet .terms) (sheet .term) j no-term taken) (ranges .term j taken)
+      let counted : j < sheet .terms .count = omega (arith, count-is) in
+      rw (getD-listed (sheet .terms) j counted) (ranges .term j counted)
 
   formed : (j : ℕ) → getD (termsOf sheet) j no-term .first ≡ 0 → getD (termsOf sheet) j no-term .second ≡ 0
   unfolding no-term
   formed j = go (decLt j (length (termsOf sheet)))
     where
       go : Dec (j < length (termsOf sheet)) → getD (termsOf sheet) j no-term .first ≡ 0 → getD (termsOf sheet) j no-term .second ≡ 0
-      go (yes h) = second-absent (sheet .n) _ _ (term-of-sheet j h .second)
+      go (yes h) = second-absent (sheet .head .n) _ _ (term-of-sheet j h .second)
       go (no past) = rw (List·getD-eq-default (termsOf sheet) no-term {n = j} (omega (arith, past))) (λ absent. refl)
 
   in-total : total (termsOf sheet) ≤ most-total
   unfolding coef-limits total most-total
   in-total =
-      le-trans (sum-le (length (termsOf sheet)) _ (λ j. 268435456) (λ j h. signed-magnitude 268435456 _ (term-of-sheet j h .coefficient))) (rw (sum-constant (length (termsOf sheet)) 268435456) (mul-le-mul-right 268435456 terms-at-most))
+      le-trans (sum-le (length (termsOf sheet)) _ (λ j. most-coef) (λ j h. signed-magnitude most-coef _ (term-of-sheet j h .coefficient))) (rw (sum-constant (length (termsOf sheet)) most-coef) (mul-le-mul-right most-coef terms-at-most))
 
-  terms-in-bounds : TermsInBounds (termsOf sheet) (sheet .step) (sheet .n)
+  terms-in-bounds : TermsInBounds (termsOf sheet) (sheet .head .step) (sheet .head .n)
   unfolding to-limits first-limits step-limits scale
   terms-in-bounds =
       record {
         count = terms-at-most;
         total = in-total;
         formed = formed;
-        step = positive-magnitude 1 (sheet .step) (ranges .step);
+        step = positive-magnitude 1 (sheet .head .step) (ranges .head .step);
         to-low = λ j h. in-range _ (term-of-sheet j h .target) .0;
         to-high = λ j h. in-range _ (term-of-sheet j h .target) .1;
         first-high = λ j h. in-range _ (term-of-sheet j h .first) .1;
-        second-high = λ j h. second-at-most (sheet .n) _ _ (term-of-sheet j h .second);
+        second-high = λ j h. second-at-most (sheet .head .n) _ _ (term-of-sheet j h .second);
       }
 
-pub bounds-of-sheet : (sheet : Sheet) → sheetVerdict sheet ≡ passes → TermsInBounds (termsOf sheet) (sheet .step) (sheet .n)
+pub bounds-of-sheet : (sheet : Sheet) → sheetVerdict sheet ≡ passes → TermsInBounds (termsOf sheet) (sheet .head .step) (sheet .head .n)
 bounds-of-sheet sheet passed = terms-in-bounds sheet (sheet-in-range sheet passed)
+
+-- ---- its counts and limits
+
+-- the counts and limits of a sheet whose verdict passes
+pub record Counts (sheet : Sheet) : Type 0 where
+  pub n-high : sheet .head .n ≤ most-quantities
+  pub steps-high : sheet .head .steps ≤ most-steps
+  pub tail-low : 2 ≤ sheet .head .tail
+  pub tail-high : sheet .head .tail ≤ scale
+  pub tol-high : sheet .head .tol ≤ most
+  pub terms-high : sheet .terms .count ≤ most-terms
+
+pub counts-of-sheet : (sheet : Sheet) → sheetVerdict sheet ≡ passes → Counts sheet
+unfolding n-limits steps-limits tail-limits tol-limits terms-limits
+counts-of-sheet sheet passed =
+    let ranges = sheet-in-range sheet passed in
+    record {
+      n-high = in-range _ (ranges .head .n) .1;
+      steps-high = in-range _ (ranges .head .steps) .1;
+      tail-low = in-range _ (ranges .head .tail) .0;
+      tail-high = in-range _ (ranges .head .tail) .1;
+      tol-high = in-range _ (ranges .head .tol) .1;
+      terms-high = in-range _ (ranges .terms) .1;
+    }
 
 -- ---- a step
 

@@ -1,18 +1,14 @@
--- Stores one after the other: of an append, of one number more, of one entry more into an array, and of one row more into a lent buffer.
--- Assumes nothing.
-use Prim.Native.Nat.{ℕ, suc, _+_, _≤_, _<_}
-use mathlib.Core.Path.{_≡_, refl, sym, ap, _∙_}
-use mathlib.Core.List.{List, [], _∷_, _++_, append-assoc, append-nil}
-use native.Mathlib.Nat.{add-zero, zero-add}
+-- Stores one after the other: of an append, of one number more, and of one entry more into an array. Assumes nothing.
+use Prim.Native.Nat.{ℕ, suc, _+_, _<_}
+use mathlib.Core.Path.{_≡_, ap, _∙_}
+use mathlib.Core.List.{List, [], _∷_, _++_}
+use native.Mathlib.Nat.{add-zero}
 use native.Mathlib.Numerals.{add-one}
 use native.Mathlib.Omega.{arith}
 use borrow.Author.Count.{below-none, below-more}
-use lib.IntN.{ℤ}
-use lib.ListN.{length, drop, getD, set, length-set}
-use lib.Seq.{sets, sets-eq, getD-set-same, getD-set-other}
+use lib.ListN.{length, getD, set, length-set}
+use lib.Seq.{sets, getD-set-same, getD-set-other}
 use Rattle.model.specs.Range.{tabulate}
-use Rattle.model.specs.Step.{Row}
-use Rattle.model.specs.Passage.{rowPlaces, places, written}
 use Rattle.model.proofs.Ranges.{length-tabulate}
 
 module _ {A : Type 0} where
@@ -43,20 +39,3 @@ module _ {A : Type 0} where
         places = length-set l i (f i) ∙ b .places;
         entry = below-more _ i (λ k before. getD-set-other l i k (f i) d (λ e. omega arith) ∙ b .entry k before) (getD-set-same l i (f i) d (omega (arith, b .places)));
       }
-
-pub places-append : (rows later : List Row) → places (rows ++ later) ≡ places rows ++ places later
-unfolding places
-places-append [] later = refl
-places-append (row ∷ rows) later = rw (places-append rows later, append-assoc (rowPlaces row) (places rows) (places later))
-
--- the buffer after so many rows is what storing their places from the front leaves
-pub written-is-sets : (rows : List Row) (buffer : List ℤ) → length (places rows) ≤ length buffer → written rows buffer ≡ sets buffer 0 (places rows)
-unfolding written
-written-is-sets rows buffer room =
-    sym (sets-eq (places rows) buffer 0 (omega arith) ∙ ap (λ (k : ℕ). places rows ++ drop k buffer) (zero-add (length (places rows))))
-
--- one row more goes behind the places of the rows before it
-pub sets-one-row-more : (buffer : List ℤ) (rows : List Row) (row : Row) → sets buffer 0 (places (rows ++ (row ∷ []))) ≡ sets (sets buffer 0 (places rows)) (length (places rows)) (rowPlaces row)
-unfolding places
-sets-one-row-more buffer rows row =
-    rw (places-append rows (row ∷ []), append-nil (rowPlaces row), sets-append buffer 0 (places rows) (rowPlaces row), zero-add (length (places rows)))

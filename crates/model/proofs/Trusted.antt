@@ -10,13 +10,13 @@ use borrow.Author.Tests.{leb-true}
 use lib.Dec.{leb}
 use lib.IntN.{ℤ}
 use lib.ListN.{length, getD}
-use Rattle.model.specs.Sheet.{scale, passes, sheetVerdict}
+use Rattle.model.specs.Sheet.{scale, passes, sheetVerdict, termsOf, startsOf}
 use Rattle.model.specs.Exact.{State, exactSum}
 use Rattle.model.specs.Step.{Ball, no-ball, Row, stepRow}
-use Rattle.model.specs.Passage.{Advance, moves, stops, question, small, slow, tolerable, tolerated, advance, Run, refused, goOn, follow, termsOf, startsOf, run, passage}
-use Rattle.model.specs.Trust.{LiesWithin, Tolerated, stateAfter, NoLower, Trusted}
+use Rattle.model.specs.Passage.{Advance, moves, stops, question, small, slow, tolerable, tolerated, advance, Run, refused, goOn, follow, run, passage}
+use Rattle.model.specs.Trust.{LiesWithin, Tolerated, stateAfter, NoLower, Trusted, TrustedOf}
 use Rattle.model.specs.declared.Refusal.{Refusal}
-use Rattle.model.specs.declared.Refusal.the-variants.{TooLarge, TooFast, Intolerable}
+use Rattle.model.specs.declared.Refusal.the-variants.{TooLarge, StepTooLong, Intolerable}
 use Rattle.model.specs.declared.Sheet.{Sheet}
 use Rattle.model.specs.declared.Term.{Term}
 use Rattle.model.proofs.Enclosed.{step-encloses}
@@ -72,7 +72,7 @@ module _ (terms : List Term) (H : ℤ) (limit tol : ℕ) where
   unfolding advance tolerated
   step-taken balls {row} e =
       let a = question-passed (small balls) TooLarge _ e in
-      let b = question-passed (slow terms H balls) TooFast _ (a .1) in
+      let b = question-passed (slow terms H balls) StepTooLong _ (a .1) in
       let c = question-passed (tolerable tol (stepRow terms H limit balls .balls)) Intolerable _ (b .1) in
       let same : row ≡ stepRow terms H limit balls = cc (c .1) in
       record { is-slow = b .0; is-row = same; is-tolerable = rw same (c .0) }
@@ -97,13 +97,13 @@ module _ (terms : List Term) (H : ℤ) (limit tol : ℕ) where
 
 -- ---- a sheet and its passage
 
-pub run-trusted : (sheet : Sheet) → sheetVerdict sheet ≡ passes → Trusted (termsOf sheet) (sheet .step) (sheet .tol) (startsOf sheet) (run sheet .rows)
-unfolding run
+pub run-trusted : (sheet : Sheet) → sheetVerdict sheet ≡ passes → TrustedOf sheet (run sheet .rows)
+unfolding TrustedOf run
 run-trusted sheet e =
-    follow-trusted (termsOf sheet) (sheet .step) (sheet .tail) (sheet .tol) (record { absent = bounds-of-sheet sheet e .formed }) (sheet .steps) 1 (startsOf sheet)
+    follow-trusted (termsOf sheet) (sheet .head .step) (sheet .head .tail) (sheet .head .tol) (record { absent = bounds-of-sheet sheet e .formed }) (sheet .head .steps) 1 (startsOf sheet)
 
 -- Demand 3, of every sheet, with any number of places lent.
-pub passage-trusted : (sheet : Sheet) (places : ℕ) → Trusted (termsOf sheet) (sheet .step) (sheet .tol) (startsOf sheet) (passage sheet places .rows)
-unfolding refused
+pub passage-trusted : (sheet : Sheet) (places : ℕ) → TrustedOf sheet (passage sheet places .rows)
+unfolding TrustedOf refused
 passage-trusted sheet places =
-    passage-either sheet places (λ run. Trusted (termsOf sheet) (sheet .step) (sheet .tol) (startsOf sheet) (run .rows)) (λ r. no-rows-trusted (termsOf sheet) (sheet .step) (sheet .tol) (startsOf sheet)) (λ e room. run-trusted sheet e)
+    passage-either sheet places (λ run. TrustedOf sheet (run .rows)) (λ r. no-rows-trusted (termsOf sheet) (sheet .head .step) (sheet .head .tol) (startsOf sheet)) (λ e room. run-trusted sheet e)

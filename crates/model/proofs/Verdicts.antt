@@ -11,9 +11,10 @@ use lib.Dec.{leb}
 use lib.IntN.{pos}
 use lib.ListN.{getD}
 use Rattle.model.specs.Range.{every}
-use Rattle.model.specs.Sheet.{Verdict, passes, refuses, ask, _then_, inOrder, from_to_, within, n-limits, steps-limits, step-limits, tail-limits, tol-limits, terms-limits, to-limits, coef-limits, first-limits, second-limits, inRange, quantityVerdict, termVerdict, no-quantity, no-term, sheetVerdict}
+use Rattle.model.specs.Sheet.{most-quantities, Verdict, passes, refuses, ask, _then_, inOrder, from_to_, within, n-limits, steps-limits, step-limits, tail-limits, tol-limits, terms-limits, to-limits, coef-limits, first-limits, second-limits, inRange, headVerdict, quantityVerdict, quantitiesVerdict, termVerdict, termsVerdict, no-quantity, no-term, sheetVerdict}
 use Rattle.model.specs.declared.Refusal.{Refusal}
 use Rattle.model.specs.declared.Refusal.the-variants.{OutOfRange}
+use Rattle.model.specs.declared.Head.{Head}
 use Rattle.model.specs.declared.Sheet.{Sheet}
 use Rattle.model.specs.declared.Term.{Term}
 
@@ -74,33 +75,42 @@ term-in-range n term e =
     let c = both-pass (inRange (first-limits n) (pos (term .first))) _ (b .1) in
     record { target = a .0; coefficient = b .0; first = c .0; second = c .1 }
 
+pub record HeadInRange (head : Head) : Type 0 where
+  pub n : inRange n-limits (pos (head .n)) ≡ passes
+  pub steps : inRange steps-limits (pos (head .steps)) ≡ passes
+  pub step : inRange step-limits (head .step) ≡ passes
+  pub tail : inRange tail-limits (pos (head .tail)) ≡ passes
+  pub tol : inRange tol-limits (pos (head .tol)) ≡ passes
+
+pub head-in-range : (head : Head) → headVerdict head ≡ passes → HeadInRange head
+unfolding headVerdict
+head-in-range head e =
+    let a = both-pass (inRange n-limits (pos (head .n))) _ e in
+    let b = both-pass (inRange steps-limits (pos (head .steps))) _ (a .1) in
+    let c = both-pass (inRange step-limits (head .step)) _ (b .1) in
+    let d = both-pass (inRange tail-limits (pos (head .tail))) _ (c .1) in
+    record { n = a .0; steps = b .0; step = c .0; tail = d .0; tol = d .1 }
+
+-- no more quantities than a sheet may have
+pub few-quantities : (head : Head) → headVerdict head ≡ passes → head .n ≤ most-quantities
+unfolding n-limits
+few-quantities head e = in-range {low = 1} {high = most-quantities} (head .n) (head-in-range head e .n) .1
+
 pub record SheetInRange (sheet : Sheet) : Type 0 where
-  pub n : inRange n-limits (pos (sheet .n)) ≡ passes
-  pub steps : inRange steps-limits (pos (sheet .steps)) ≡ passes
-  pub step : inRange step-limits (sheet .step) ≡ passes
-  pub tail : inRange tail-limits (pos (sheet .tail)) ≡ passes
-  pub tol : inRange tol-limits (pos (sheet .tol)) ≡ passes
-  pub quantity : (i : ℕ) → i < sheet .n → quantityVerdict (getD (sheet .quantity) i no-quantity) ≡ passes
-  pub terms : inRange terms-limits (pos (sheet .terms)) ≡ passes
-  pub term : (j : ℕ) → j < sheet .terms → TermInRange (sheet .n) (getD (sheet .term) j no-term)
+  pub head : HeadInRange (sheet .head)
+  pub quantity : (i : ℕ) → i < sheet .head .n → quantityVerdict (getD (sheet .quantities) i no-quantity) ≡ passes
+  pub terms : inRange terms-limits (pos (sheet .terms .count)) ≡ passes
+  pub term : (j : ℕ) → j < sheet .terms .count → TermInRange (sheet .head .n) (getD (sheet .terms .list) j no-term)
 
 pub sheet-in-range : (sheet : Sheet) → sheetVerdict sheet ≡ passes → SheetInRange sheet
-unfolding sheetVerdict
+unfolding sheetVerdict quantitiesVerdict termsVerdict
 sheet-in-range sheet e =
-    let a = both-pass (inRange n-limits (pos (sheet .n))) _ e in
-    let b = both-pass (inRange steps-limits (pos (sheet .steps))) _ (a .1) in
-    let c = both-pass (inRange step-limits (sheet .step)) _ (b .1) in
-    let d = both-pass (inRange tail-limits (pos (sheet .tail))) _ (c .1) in
-    let f = both-pass (inRange tol-limits (pos (sheet .tol))) _ (d .1) in
-    let g = both-pass (inOrder (sheet .n) (λ i. quantityVerdict (getD (sheet .quantity) i no-quantity))) _ (f .1) in
-    let h = both-pass (inRange terms-limits (pos (sheet .terms))) _ (g .1) in
+    let a = both-pass (headVerdict (sheet .head)) _ e in
+    let b = both-pass (quantitiesVerdict (sheet .head .n) (sheet .quantities)) _ (a .1) in
+    let c = both-pass (inRange terms-limits (pos (sheet .terms .count))) _ (b .1) in
     record {
-      n = a .0;
-      steps = b .0;
-      step = c .0;
-      tail = d .0;
-      tol = f .0;
-      quantity = each-passes (sheet .n) (λ i. quantityVerdict (getD (sheet .quantity) i no-quantity)) (g .0);
-      terms = h .0;
-      term = λ j lt. term-in-range (sheet .n) (getD (sheet .term) j no-term) (each-passes (sheet .terms) (λ j. termVerdict (sheet .n) (getD (sheet .term) j no-term)) (h .1) j lt);
+      head = head-in-range (sheet .head) (a .0);
+      quantity = each-passes (sheet .head .n) (λ i. quantityVerdict (getD (sheet .quantities) i no-quantity)) (b .0);
+      terms = c .0;
+      term = λ j lt. term-in-range (sheet .head .n) (getD (sheet .terms .list) j no-term) (each-passes (sheet .terms .count) (λ j. termVerdict (sheet .head .n) (getD (sheet .terms .list) j no-term)) (c .1) j lt);
     }

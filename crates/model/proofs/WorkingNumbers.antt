@@ -12,7 +12,7 @@ use Rattle.rounding.proofs.Integers.{abs-add}
 use Rattle.model.specs.Range.{sum, sumℤ}
 use Rattle.model.specs.Sheet.{scale, most, no-term}
 use Rattle.model.specs.Exact.{bringsℤ}
-use Rattle.model.specs.Step.{Ball, reach, greatest, brings, Coefficients, coefficient, factor, productRadius, products, times, share, coefficientsTo, newBall}
+use Rattle.model.specs.Step.{most-degree, Ball, reach, greatest, brings, Coefficients, coefficient, factor, productRadius, products, times, share, coefficientsTo, newBall}
 use Rattle.model.specs.Bounds.{total, most-total, InBounds}
 use Rattle.model.specs.declared.Term.{Term}
 use Rattle.model.proofs.Reach.{reach-product, reach-times, reach-sums-bounded}
@@ -42,7 +42,7 @@ module _ (table : Coefficients) (k : ℕ) {G : ℕ} (reaches : FactorsReach tabl
       rw (reach-product (factor table l first) (factor table (k - l) second)) (reaches-fit (le-trans (reaches l h first) small) (le-trans (reaches (k - l) (omega arith) second) small))
 
   -- S and F, as far as they are summed up
-  pub products-fit : (first second m : ℕ) → m ≤ suc k → k < 28 → reach (partialProducts table k first second m) ≤ 28 * (2 ^ 34 + 3)
+  pub products-fit : (first second m : ℕ) → m ≤ suc k → k < most-degree → reach (partialProducts table k first second m) ≤ most-degree * (2 ^ 34 + 3)
   unfolding scale most
   products-fit first second m h l =
       omega (arith, products-bounded table k reaches first second m h, mul-le-mul (le-trans h l) (summand (G * G) (mul-le-mul small small)))
@@ -51,7 +51,7 @@ module _ (table : Coefficients) (k : ℕ) {G : ℕ} (reaches : FactorsReach tabl
       summand g h = omega (arith, h)
 
   -- and so with fewer factors
-  pub products-reach : (first second : ℕ) → k < 28 → reach (products table k first second) ≤ 28 * (2 ^ 34 + 3)
+  pub products-reach : (first second : ℕ) → k < most-degree → reach (products table k first second) ≤ most-degree * (2 ^ 34 + 3)
   unfolding most products partialProducts
   products-reach first zero l = omega (arith, reaches k (le-refl k) first)
   products-reach first (suc second) l = products-fit first (suc second) (suc k) (le-refl (suc k)) l
@@ -62,7 +62,7 @@ brings-own {target} term x e = rw (eq-eqb (term .to) target e)
 
 -- ---- H, A, and the sums over a target's terms
 
-module _ {terms : List Term} {H : ℤ} {balls : List Ball} (bounds : InBounds terms H balls) (table : Coefficients) (k : ℕ) (reaches : FactorsReach table k (greatest balls)) (order : k < 28) where
+module _ {terms : List Term} {H : ℤ} {balls : List Ball} (bounds : InBounds terms H balls) (table : Coefficients) (k : ℕ) (reaches : FactorsReach table k (greatest balls)) (order : k < most-degree) where
   -- |H×S| and |H|×F
   pub step-product-fits : (first second : ℕ) → natAbs H * reach (products table k first second) < 2 ^ 63
   unfolding scale
@@ -93,7 +93,7 @@ module _ {terms : List Term} {H : ℤ} {balls : List Ball} (bounds : InBounds te
   term-product-fits j h =
       combine (natAbs (getD terms j no-term .coef)) _ _ (greatest balls) (carried-weighed table k reaches H (scale-le-greatest balls) (getD terms j no-term) (bounds .sheet .formed j)) (term-halved j h) (scale-le-greatest balls) (greatest-le-most bounds) (le-trans (summand-le (λ l. natAbs (getD terms l no-term .coef)) (length terms) h) (bounds .sheet .total))
     where
-      combine : (a c w g : ℕ) → 2 * (scale * scale) * (g * (a * c)) ≤ suc k * ((2 * g + 5) * w) + 5 * (scale * scale) * (g * a) → 2 * w ≤ g * (scale * scale * scale) → scale ≤ g → g ≤ most → a ≤ 32 * 268435456 → a * c < 2 ^ 57
+      combine : (a c w g : ℕ) → 2 * (scale * scale) * (g * (a * c)) ≤ suc k * ((2 * g + 5) * w) + 5 * (scale * scale) * (g * a) → 2 * w ≤ g * (scale * scale * scale) → scale ≤ g → g ≤ most → a ≤ most-total → a * c < 2 ^ 57
       combine a c w g e f low high total =
           let scaled : 4 * (a * c) ≤ suc k * (2 * g + 5) * scale + 10 * a =
           le-of-mul-le-mul-left {k = g * (scale * scale)} (omega (arith, e, mul-le-mul-left (suc k * (2 * g + 5)) f)) (omega (arith, low)) in
@@ -133,15 +133,15 @@ module _ {terms : List Term} {H : ℤ} {balls : List Ball} (bounds : InBounds te
   row-sums-bounded (suc (suc m)) h =
       omega (arith, row-sums-bounded (suc m) (omega arith), coefficient-halved bounds d m (omega arith) i, abs-add (sumℤ (suc m) (λ k. coefficient (coefficientsTo terms H balls d) k i .value)) (coefficient (coefficientsTo terms H balls d) (suc m) i .value))
 
-  pub row-sums-fit : (m : ℕ) → m ≤ suc d → d ≤ 28 →
+  pub row-sums-fit : (m : ℕ) → m ≤ suc d → d ≤ most-degree →
       natAbs (sumℤ m (λ k. coefficient (coefficientsTo terms H balls d) k i .value)) + sum m (λ k. coefficient (coefficientsTo terms H balls d) k i .radius) < 2 ^ 33
   unfolding most
   row-sums-fit m h l =
       let top : greatest balls + 2727 ≤ most + 2727 = omega (arith, greatest-le-most bounds) in
-      let count : m ≤ 29 = omega arith in
+      let count : m ≤ most-degree + 1 = omega arith in
       omega (arith, row-sums-bounded m h, greatest-le-most bounds, mul-le-mul count top)
 
   -- the new row's value and radius
-  pub new-ball-fits : (tail : ℕ) → d ≤ 28 → reach (newBall (coefficientsTo terms H balls d) d tail i) < 2 ^ 33 + tail
+  pub new-ball-fits : (tail : ℕ) → d ≤ most-degree → reach (newBall (coefficientsTo terms H balls d) d tail i) < 2 ^ 33 + tail
   unfolding reach newBall
   new-ball-fits tail l = omega (arith, row-sums-fit (suc d) (le-refl (suc d)) l)

@@ -24,13 +24,16 @@ decimalBy zero n = digit n ∷ []
 decimalBy (suc fuel) n =
     elim (ltb n 10) [ true ↦ digit n ∷ [] | false ↦ decimalBy fuel (n / 10) ++ (digit (n % 10) ∷ []) ]
 
+-- a whole number in decimal, with its sign where it is negative
 unfoldable pub decimal : ℤ → List ℕ
 decimal (pos n) = decimalBy n n
 decimal (negsuc n) = code "-" ∷ decimalBy (suc n) (suc n)
 
+-- a line: key=number
 unfoldable pub printed : String → ℤ → List ℕ
 printed key z = bytes key ++ bytes "=" ++ decimal z ++ bytes "\n"
 
+-- two lines for each quantity
 unfoldable pub ballsText : List Ball → List ℕ
 ballsText [] = []
 ballsText (ball ∷ balls) = printed "value" (ball .value) ++ printed "radius" (pos (ball .radius)) ++ ballsText balls
@@ -41,9 +44,11 @@ rowsText number [] = []
 rowsText number (row ∷ rows) =
     printed "row" (pos number) ++ printed "degree" (pos (row .degree)) ++ ballsText (row .balls) ++ rowsText (suc number) rows
 
+-- the last two lines
 unfoldable pub outcomeText : Outcome → List ℕ
 outcomeText outcome = printed "result" (pos (result outcome)) ++ printed "at" (pos (refusedStep outcome))
 
+-- the rows, and then what came of the passage
 unfoldable pub runText : Run → List ℕ
 runText run = rowsText 1 (run .rows) ++ outcomeText (run .outcome)
 

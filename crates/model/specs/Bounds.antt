@@ -6,21 +6,22 @@ use mathlib.Core.Path.{_≡_}
 use lib.IntN.{ℤ, natAbs}
 use lib.ListN.{length, getD}
 use Rattle.model.specs.Range.{sum}
-use Rattle.model.specs.Sheet.{scale, most, no-term}
+use Rattle.model.specs.Sheet.{scale, most, most-terms, most-coef, no-term}
 use Rattle.model.specs.Step.{Ball, no-ball, reach, greatest, ratio}
 use Rattle.model.specs.Passage.{most-ratio}
 use Rattle.model.specs.declared.Term.{Term}
 
--- the sum of |A| over all terms, and the most that it is: 32 terms of the largest coefficient
+-- the sum of |A| over all terms
 unfoldable pub total : List Term → ℕ
 total terms = sum (length terms) (λ j. natAbs (getD terms j no-term .coef))
 
+-- the most that it is: the most terms with the largest coefficient
 unfoldable pub most-total : ℕ
-most-total = 32 * 268435456
+most-total = most-terms * most-coef
 
 -- What a sheet's verdict says of its terms and its step, n being the number of quantities. Of the coefficients only their total is bounded.
 pub record TermsInBounds (terms : List Term) (H : ℤ) (n : ℕ) : Type 0 where
-  pub count : length terms ≤ 32
+  pub count : length terms ≤ most-terms
   pub total : total terms ≤ most-total
   pub formed : (j : ℕ) → getD terms j no-term .first ≡ 0 → getD terms j no-term .second ≡ 0
   pub step : natAbs H ≤ scale

@@ -1,16 +1,19 @@
--- Document 01's soundings A to J, and the order of question 3, as one table. proofs/Cases.antt has the one theorem, that all of them hold.
+-- Document 01's soundings A to J, the range of each field, the order of question 3 and what else no sounding fixes, as one table. proofs/Cases.antt has the one theorem, that all of them hold.
 use Prim.Native.Nat.{ℕ}
+use Prim.Native.Char.{code}
 use Prim.Native.String.{String, _++_ as _&_}
+use mathlib.Core.Bool.{true, false}
 use mathlib.Core.List.{List, [], _∷_, map}
 use mathlib.Core.Path.{_≡_}
-use lib.IntN.{ℤ, pos, negsuc}
-use lib.ListN.{length, take}
+use lib.IntN.{ℤ, pos, negsuc, negℤ, _+ℤ_, _-ℤ_}
+use lib.ListN.{length, take, drop, replicate}
 use Rattle.rounding.specs.Rounding.{near, up}
 use Rattle.model.specs.Range.{bytes}
-use Rattle.model.specs.Sheet.{Gives, padded, no-quantity, no-term}
+use Rattle.model.specs.Sheet.{Gives, Limits, within, n-limits, steps-limits, step-limits, tail-limits, tol-limits, start-limits, radius-limits, terms-limits, to-limits, coef-limits, first-limits, second-limits, quantitiesHeld, termsHeld}
 use Rattle.model.specs.Reading.{readSheet}
 use Rattle.model.specs.Step.{Row}
 use Rattle.model.specs.Passage.{passage}
+use Rattle.model.specs.Rows.{written}
 use Rattle.model.specs.Answer.{runOf, answer}
 use Rattle.model.specs.declared.Outcome.the-variants.{Accepted}
 use Rattle.model.specs.declared.Start.the-variants.{Reading, Missing}
@@ -25,6 +28,7 @@ WasRead sheet = readSheet (bytes sheet) .outcome ≡ Accepted
 unfoldable pub firstRow : String → List Row
 firstRow sheet = take 1 (runOf (bytes sheet) .rows)
 
+-- a case, of one of these forms
 pub data Case : Type 0 where
   -- a sheet prints an answer
   prints : String → String → Case
@@ -36,11 +40,20 @@ pub data Case : Type 0 where
   ends : String → ℕ → ℕ → Case
   -- a sheet is read, and with so many places its passage ends with a result
   lent : String → ℕ → ℕ → Case
+  -- a sheet is read, and a lent buffer that held the one list holds the other after its passage
+  leaves : String → List ℤ → List ℤ → Case
+  -- a sheet of one quantity and one term is read, and 0 stands past both
+  alone : String → Case
+  -- a text of so many letters is refused by this number, before step 1
+  garbled : ℕ → ℕ → Case
   -- a sheet given as numbers, with no places lent, is refused by this number, before step 1
   judged : Sheet → ℕ → Case
+  -- limits have these ends, which are in range, and the numbers next to them are not
+  spans : Limits → ℤ → ℤ → Case
   nearIs : ℤ → ℕ → ℤ → Case
   upIs : ℕ → ℕ → ℕ → Case
 
+-- what a case says
 unfoldable pub Holds : Case → Type 0
 Holds (prints sheet text) = answer (bytes sheet) ≡ bytes text
 Holds (opens sheet degree value radius) =
@@ -48,10 +61,21 @@ Holds (opens sheet degree value radius) =
 Holds (opensAt sheet degree) = WasRead sheet × (map (λ row. row .degree) (firstRow sheet) ≡ degree ∷ [])
 Holds (ends sheet number step) = WasRead sheet × Gives (runOf (bytes sheet) .outcome) number step
 Holds (lent sheet places number) = WasRead sheet × Gives (passage (readSheet (bytes sheet) .sheet) places .outcome) number 0
+Holds (leaves sheet before after) =
+    WasRead sheet × (written (passage (readSheet (bytes sheet) .sheet) (length before) .rows) before ≡ after)
+Holds (alone sheet) =
+    let read = readSheet (bytes sheet) .sheet in
+    WasRead sheet
+    × (drop 1 (read .quantities) ≡ replicate 7 (record { start = Reading (pos 0); radius = 0 }))
+    × (drop 1 (read .terms .list) ≡ replicate 31 (record { to = 0; coef = pos 0; first = 0; second = 0 }))
+Holds (garbled count number) = Gives (runOf (replicate count (code "n")) .outcome) number 0
 Holds (judged sheet number) = Gives (passage sheet 0 .outcome) number 0
+Holds (spans limits low high) =
+    (map (within limits) (low ∷ high ∷ []) ≡ true ∷ true ∷ []) × (map (within limits) ((low -ℤ pos 1) ∷ (high +ℤ pos 1) ∷ []) ≡ false ∷ false ∷ [])
 Holds (nearIs n d z) = near n d ≡ z
 Holds (upIs n d u) = up n d ≡ u
 
+-- every case of a list holds
 unfoldable pub AllHold : List Case → Type 0
 AllHold [] = Unit {0}
 AllHold (case ∷ rest) = Holds case × AllHold rest
@@ -61,36 +85,42 @@ unfoldable pub sheetText : String → String → String → String → String �
 sheetText steps step tail tol start radius terms =
     "n=1\nsteps=" & steps & "\nstep=" & step & "\ntail=" & tail & "\ntol=" & tol & "\nstart=" & start & "\nradius=" & radius & "\nterms=" & terms
 
+-- no terms
 unfoldable pub none : String
 none = "0\n"
 
+-- one term with these factors, its coefficient one whole
 unfoldable pub one : String → String → String
 one first second = "1\nto=1\ncoef=16777216\nfirst=" & first & "\nsecond=" & second & "\n"
 
--- a reading with a radius, and no reading
+-- a reading with a radius
 unfoldable pub reading : ℕ → ℕ → Quantity
 reading start radius = record { start = Reading (pos start); radius = radius }
 
+-- no reading
 unfoldable pub missing : ℕ → Quantity
 missing radius = record { start = Missing; radius = radius }
 
--- a sheet given as numbers: its tolerance, its quantities, how many terms
-unfoldable pub given : ℕ → List Quantity → ℕ → Sheet
-given tol quantities terms =
+-- a sheet given as numbers: its steps, its tolerance, its quantities, how many terms
+unfoldable pub given : ℕ → ℕ → List Quantity → ℕ → Sheet
+given steps tol quantities terms =
     record {
-      n = length quantities;
-      steps = 1;
-      step = pos 1;
-      tail = 2;
-      tol = tol;
-      quantity = padded 8 no-quantity quantities;
-      terms = terms;
-      term = padded 32 no-term [];
+      head = record { n = length quantities; steps = steps; step = pos 1; tail = 2; tol = tol };
+      quantities = quantitiesHeld quantities;
+      terms = termsHeld terms [];
     }
 
+-- x' = x × x
 unfoldable pub square : String
 square = one "1" "1"
 
+-- two quantities, each in the other's rate: x' = y, y' = -x × y
+unfoldable pub two : String
+two =
+    "n=2\nsteps=2\nstep=4194304\ntail=349526\ntol=100000\nstart=16777216\nradius=3\nstart=8388608\nradius=5\nterms=2\n"
+    & "to=1\ncoef=16777216\nfirst=2\nsecond=0\nto=2\ncoef=-16777216\nfirst=1\nsecond=2\n"
+
+-- the table
 unfoldable pub cases : List Case
 cases =
     -- A
@@ -98,7 +128,7 @@ cases =
     -- B
     ∷ opens (sheetText "1" "4194304" "349525" "87393" "16777216" "0" square) 3 (pos 22282240) 87393
     -- C
-    ∷ ends (sheetText "1" "4194304" "349526" "349533" "16777216" "0" square) 8 1
+    ∷ prints (sheetText "1" "4194304" "349526" "349533" "16777216" "0" square) "result=8\nat=1\n"
     -- D
     ∷ opensAt (sheetText "1" "8388608" "349526" "349534" "16777216" "0" square) 6
     ∷ ends (sheetText "1" "8388609" "349526" "349534" "16777216" "0" square) 7 1
@@ -122,13 +152,41 @@ cases =
     -- J
     ∷ lent (sheetText "2" "4194304" "349526" "349534" "0" "0" none) 6 0
     ∷ lent (sheetText "2" "4194304" "349526" "349534" "0" "0" none) 5 5
+    -- two quantities, refused at step 2: the text, and the lent buffer with a place more than its rows need
+    ∷ prints two "row=1\ndegree=3\nvalue=18623147\nradius=87396\nvalue=6444373\nradius=87400\nresult=8\nat=2\n"
+    ∷ leaves two (replicate 11 (pos 7)) (pos 3 ∷ pos 18623147 ∷ pos 6444373 ∷ pos 87396 ∷ pos 87400 ∷ replicate 6 (pos 7))
+    -- questions 1 and 2: a sheet with a byte more, no byte at all, a number of nine digits and one of ten, what stands past the counts, texts of the
+    -- most bytes and of one more
+    ∷ prints (sheetText "1" "4194304" "349526" "349534" "16777216" "0" square & "\n") "result=2\nat=0\n"
+    ∷ garbled 0 2
+    ∷ prints (sheetText "1" "4194304" "349526" "349534" "999999999" "0" square) "result=3\nat=0\n"
+    ∷ prints (sheetText "1" "4194304" "349526" "349534" "1000000000" "0" square) "result=2\nat=0\n"
+    ∷ alone (sheetText "1" "4194304" "349526" "349534" "16777216" "0" square)
+    ∷ garbled 4096 2
+    ∷ garbled 4097 1
+    -- the range of each field
+    ∷ spans n-limits (pos 1) (pos 8)
+    ∷ spans steps-limits (pos 1) (pos 400)
+    ∷ spans step-limits (pos 1) (pos 16777216)
+    ∷ spans tail-limits (pos 2) (pos 16777216)
+    ∷ spans tol-limits (pos 1) (pos 536870912)
+    ∷ spans start-limits (negℤ (pos 536870912)) (pos 536870912)
+    ∷ spans radius-limits (pos 0) (pos 536870912)
+    ∷ spans terms-limits (pos 0) (pos 32)
+    ∷ spans (to-limits 5) (pos 1) (pos 5)
+    ∷ spans coef-limits (negℤ (pos 268435456)) (pos 268435456)
+    ∷ spans (first-limits 5) (pos 0) (pos 5)
+    ∷ spans (second-limits 5 3) (pos 0) (pos 5)
+    ∷ spans (second-limits 5 0) (pos 0) (pos 0)
+    ∷ judged (given 400 1 (reading 0 0 ∷ []) 0) 5
+    ∷ judged (given 401 1 (reading 0 0 ∷ []) 0) 3
     -- question 3: 3 and 4 in the order of the fields, and 5 after them
-    ∷ judged (given 0 (missing 0 ∷ []) 0) 3
-    ∷ judged (given 1 (missing 536870913 ∷ []) 0) 4
-    ∷ judged (given 1 (reading 0 536870913 ∷ missing 0 ∷ []) 0) 3
-    ∷ judged (given 1 (missing 0 ∷ reading 536870913 0 ∷ []) 0) 4
-    ∷ judged (given 1 (missing 0 ∷ []) 33) 4
-    ∷ judged (given 1 (missing 0 ∷ []) 1) 4
-    ∷ judged (given 1 (reading 0 0 ∷ []) 1) 3
-    ∷ judged (given 1 (reading 0 0 ∷ []) 0) 5
+    ∷ judged (given 1 0 (missing 0 ∷ []) 0) 3
+    ∷ judged (given 1 1 (missing 536870913 ∷ []) 0) 4
+    ∷ judged (given 1 1 (reading 0 536870913 ∷ missing 0 ∷ []) 0) 3
+    ∷ judged (given 1 1 (missing 0 ∷ reading 536870913 0 ∷ []) 0) 4
+    ∷ judged (given 1 1 (missing 0 ∷ []) 33) 4
+    ∷ judged (given 1 1 (missing 0 ∷ []) 1) 4
+    ∷ judged (given 1 1 (reading 0 0 ∷ []) 1) 3
+    ∷ judged (given 1 1 (reading 0 0 ∷ []) 0) 5
     ∷ []

@@ -61,11 +61,13 @@ unfoldable pub sumDenominator : ℕ → ℕ → ℕ → ℕ
 sumDenominator D w zero = D
 sumDenominator D w (suc K) = sumDenominator D w K * (suc K * (D * (scale * w)))
 
+-- the sum's numerator of quantity i over that denominator
 unfoldable pub sumNumerator : List Term → State → ℤ → ℕ → ℕ → ℕ → ℤ
 sumNumerator terms state h w zero i = order (ordersTo terms state 0) 0 i
 sumNumerator terms state h w (suc K) i =
     sumNumerator terms state h w K i *ℤ pos (suc K * (state .denominator * (scale * w))) +ℤ order (ordersTo terms state (suc K)) (suc K) i *ℤ pow h (suc K)
 
+-- the state that the sum comes to
 unfoldable pub exactSum : List Term → ℤ → ℕ → ℕ → State → State
 exactSum terms h w K state =
     record {

@@ -3,6 +3,7 @@ pub mod Sheet
 pub mod Reading
 pub mod Exact
 pub mod Step
+pub mod Rows
 pub mod Passage
 pub mod Bounds
 pub mod Trust

@@ -1,21 +1,19 @@
 -- Document 01, questions 3 to 6: a passage given as numbers, its rows and its refusal, and the lent buffer after it.
-use Prim.Native.Nat.{ℕ, zero, suc, _+_, _-_, _*_}
+use Prim.Native.Nat.{ℕ, zero, suc, _-_, _*_}
 use mathlib.Core.Bool.{Bool, true, false}
-use mathlib.Core.List.{List, [], _∷_, _++_, map}
+use mathlib.Core.List.{List, [], _∷_}
 use mathlib.Core.Path.{_≡_}
 use lib.Dec.{leb}
-use lib.IntN.{ℤ, pos, natAbs}
-use lib.ListN.{length, getD, take, drop}
-use Rattle.model.specs.Range.{every, tabulate}
-use Rattle.model.specs.Sheet.{number, most, sheetVerdict, passes, refuses, no-quantity}
+use lib.IntN.{ℤ}
+use lib.ListN.{length, getD}
+use Rattle.model.specs.Range.{every}
+use Rattle.model.specs.Sheet.{number, most, sheetVerdict, passes, refuses, termsOf, startsOf}
 use Rattle.model.specs.Step.{Ball, no-ball, reach, greatest, ratio, Row, stepRow}
-use Rattle.model.specs.declared.Start.{Start}
-use Rattle.model.specs.declared.Start.the-variants.{Reading, Missing}
-use Rattle.model.specs.declared.Quantity.{Quantity}
+use Rattle.model.specs.Rows.{width, written}
 use Rattle.model.specs.declared.Term.{Term}
 use Rattle.model.specs.declared.Sheet.{Sheet}
 use Rattle.model.specs.declared.Refusal.{Refusal}
-use Rattle.model.specs.declared.Refusal.the-variants.{TooFewPlaces, TooLarge, TooFast, Intolerable}
+use Rattle.model.specs.declared.Refusal.the-variants.{TooFewPlaces, TooLarge, StepTooLong, Intolerable}
 use Rattle.model.specs.declared.Outcome.{Outcome}
 use Rattle.model.specs.declared.Outcome.the-variants.{Accepted, Refused}
 
@@ -31,6 +29,7 @@ unfoldable pub advanceNumber : Advance → ℕ
 advanceNumber (moves row) = 0
 advanceNumber (stops r) = number r
 
+-- a question: the step goes on where the answer is yes, and stops with this refusal where it is no
 unfoldable pub question : Bool → Refusal → Advance → Advance
 question true r next = next
 question false r next = stops r
@@ -39,10 +38,11 @@ question false r next = stops r
 unfoldable pub small : List Ball → Bool
 small balls = every (length balls) (λ i. leb (reach (getD balls i no-ball)) most)
 
--- question 5: is the ratio at most 8,388,608?
+-- the largest ratio of a step: one half
 unfoldable pub most-ratio : ℕ
 most-ratio = 8388608
 
+-- question 5: is the ratio at most 8,388,608?
 unfoldable pub slow : List Term → ℤ → List Ball → Bool
 slow terms H balls = leb (ratio terms H (length balls) (greatest balls)) most-ratio
 
@@ -50,13 +50,15 @@ slow terms H balls = leb (ratio terms H (length balls) (greatest balls)) most-ra
 unfoldable pub tolerable : ℕ → List Ball → Bool
 tolerable tol balls = every (length balls) (λ i. leb (getD balls i no-ball .radius) tol)
 
+-- the row of a step, with question 6
 unfoldable pub tolerated : ℕ → Row → Advance
 tolerated tol row = question (tolerable tol (row .balls)) Intolerable (moves row)
 
 module _ (terms : List Term) (H : ℤ) (limit tol : ℕ) where
+  -- a step of H from these values and radii, with questions 4 to 6
   unfoldable pub advance : List Ball → Advance
   advance balls =
-      question (small balls) TooLarge (question (slow terms H balls) TooFast (tolerated tol (stepRow terms H limit balls)))
+      question (small balls) TooLarge (question (slow terms H balls) StepTooLong (tolerated tol (stepRow terms H limit balls)))
 
 -- ---- step after step
 
@@ -65,6 +67,7 @@ pub record Run : Type 0 where
   pub rows : List Row
   pub outcome : Outcome
 
+-- no row, and a refusal at this step
 unfoldable pub refused : Refusal → ℕ → Run
 refused r step = record { rows = []; outcome = Refused r step }
 
@@ -81,29 +84,13 @@ module _ (terms : List Term) (H : ℤ) (limit tol : ℕ) where
 
 -- ---- a passage given as numbers
 
-unfoldable pub termsOf : Sheet → List Term
-termsOf sheet = take (sheet .terms) (sheet .term)
-
--- a start is a number here: refusal 4 comes before any step, so that the second case does not occur
-unfoldable pub startValue : Start → ℤ
-startValue (Reading z) = z
-startValue Missing = pos 0
-
-unfoldable pub startBall : Quantity → Ball
-startBall quantity = record { value = startValue (quantity .start); radius = quantity .radius }
-
-unfoldable pub startsOf : Sheet → List Ball
-startsOf sheet = tabulate (sheet .n) (λ i. startBall (getD (sheet .quantity) i no-quantity))
-
--- places of a row: the degree, n values, n radii
-unfoldable pub width : ℕ → ℕ
-width n = 2 * n + 1
-
+-- how many places its rows take
 unfoldable pub placesNeeded : Sheet → ℕ
-placesNeeded sheet = sheet .steps * width (sheet .n)
+placesNeeded sheet = sheet .head .steps * width (sheet .head .n)
 
+-- all steps of a sheet
 unfoldable pub run : Sheet → Run
-run sheet = follow (termsOf sheet) (sheet .step) (sheet .tail) (sheet .tol) (sheet .steps) 1 (startsOf sheet)
+run sheet = follow (termsOf sheet) (sheet .head .step) (sheet .head .tail) (sheet .head .tol) (sheet .head .steps) 1 (startsOf sheet)
 
 -- the passage of a sheet, with so many places lent
 unfoldable pub passage : Sheet → ℕ → Run
@@ -115,38 +102,12 @@ passage sheet places =
 
 -- how many rows are written: all in an accepted passage, the earlier ones where a step is refused, none before step 1 (0 - 1 is 0)
 unfoldable pub rowsWritten : Sheet → Outcome → ℕ
-rowsWritten sheet Accepted = sheet .steps
+rowsWritten sheet Accepted = sheet .head .steps
 rowsWritten sheet (Refused r step) = step - 1
 
 -- ---- the lent buffer
 
-unfoldable pub rowPlaces : Row → List ℤ
-rowPlaces row = pos (row .degree) ∷ (map (λ ball. ball .value) (row .balls) ++ map (λ ball. pos (ball .radius)) (row .balls))
-
-unfoldable pub places : List Row → List ℤ
-places [] = []
-places (row ∷ rows) = rowPlaces row ++ places rows
-
--- the rows from the front, and every other place unchanged
-unfoldable pub written : List Row → List ℤ → List ℤ
-written rows buffer = places rows ++ drop (length (places rows)) buffer
-
--- so many steps from `start` have come to this outcome, and a buffer that held `before` holds their rows, and is `after`
-pub record Finished (terms : List Term) (H : ℤ) (limit tol steps : ℕ) (start : List Ball) (before : List ℤ) (outcome : Outcome) (after : List ℤ) : Type 0 where
-  pub answer : outcome ≡ follow terms H limit tol steps 1 start .outcome
-  pub stored : after ≡ written (follow terms H limit tol steps 1 start .rows) before
-
--- row j of a buffer of rows of n quantities, as it stands there. A buffer's numbers are signed, and those of a degree and of a radius that were
--- written are not negative, so that their magnitudes are the numbers themselves.
-unfoldable pub rowIn : ℕ → List ℤ → ℕ → Row
-rowIn n buffer j =
-    record {
-      degree = natAbs (getD buffer (j * width n) (pos 0));
-      balls = tabulate n (λ i. record {
-        value = getD buffer (j * width n + 1 + i) (pos 0);
-        radius = natAbs (getD buffer (j * width n + 1 + n + i) (pos 0));
-      });
-    }
-
-unfoldable pub rowsIn : ℕ → ℕ → List ℤ → List Row
-rowsIn n count buffer = tabulate count (rowIn n buffer)
+-- A run into a lent buffer: the outcome is the run's, and the buffer holds its rows from the front, every other place as it was.
+pub record Kept (run : Run) (before after : List ℤ) (outcome : Outcome) : Type 0 where
+  pub answer : outcome ≡ run .outcome
+  pub buffer : after ≡ written (run .rows) before

@@ -9,17 +9,18 @@ use mathlib.Core.Option.{Option, some, none}
 use lib.IntN.{ℤ, pos, negsuc, natAbs}
 use lib.ListN.{length}
 use Rattle.model.specs.Range.{bytes}
-use Rattle.model.specs.Sheet.{Limits, within, padded, no-quantity, no-term, no-sheet}
-use Rattle.model.specs.Sheet.{n-limits, steps-limits, step-limits, tail-limits, tol-limits, start-limits, radius-limits, terms-limits, to-limits, coef-limits, first-limits, second-limits}
+use Rattle.model.specs.Sheet.{most-bytes, most-digits, Limits, within, quantitiesHeld, termsHeld, no-sheet, n-limits, steps-limits, step-limits, tail-limits, tol-limits, start-limits, radius-limits, terms-limits, to-limits, coef-limits, first-limits, second-limits}
+use Rattle.model.specs.declared.Head.{Head}
 use Rattle.model.specs.declared.Start.{Start}
 use Rattle.model.specs.declared.Start.the-variants.{Reading}
 use Rattle.model.specs.declared.Quantity.{Quantity}
 use Rattle.model.specs.declared.Term.{Term}
+use Rattle.model.specs.declared.Terms.{Terms}
 use Rattle.model.specs.declared.Sheet.{Sheet}
 use Rattle.model.specs.declared.Refusal.{Refusal}
 use Rattle.model.specs.declared.Refusal.the-variants.{Oversized, Misspelt, OutOfRange, NoReading}
 use Rattle.model.specs.declared.Outcome.the-variants.{Accepted, Refused}
-use Rattle.model.specs.declared.Reading.{Reading as ReadSheet}
+use Rattle.model.specs.declared.ReadSheet.{ReadSheet}
 
 -- ---- a number, as it is spelled
 
@@ -28,6 +29,7 @@ pub data Spelled : Type 0 where
   spelled : ℤ → List ℕ → Spelled
   wrong : Spelled
 
+-- a byte from `0` to `9`
 unfoldable pub isDigit : ℕ → Bool
 isDigit b = leb (code "0") b && leb b (code "9")
 
@@ -42,7 +44,7 @@ digits (suc more) value (b ∷ rest) =
 unfoldable pub natural : List ℕ → Spelled
 natural [] = wrong
 natural (b ∷ rest) =
-    elim (isDigit b) [ true ↦ elim (eqb b (code "0")) [ true ↦ spelled (pos 0) rest | false ↦ digits 8 (b - code "0") rest ] | false ↦ wrong ]
+    elim (isDigit b) [ true ↦ elim (eqb b (code "0")) [ true ↦ spelled (pos 0) rest | false ↦ digits (most-digits - 1) (b - code "0") rest ] | false ↦ wrong ]
 
 -- never a minus before 0; `natural` spells no negative number, so that the third case does not occur
 unfoldable pub negated : Spelled → Spelled
@@ -70,12 +72,14 @@ pub data Line : Type 0 where
   misspelt : Line
   outside : Line
 
+-- a number that was spelled, to the end of its line: the line feed decides before the range
 unfoldable pub ended : Limits → Spelled → Line
 ended limits (spelled z []) = misspelt
 ended limits (spelled z (b ∷ rest)) =
     elim (eqb b (code "\n")) [ true ↦ elim (within limits z) [ true ↦ holds z rest | false ↦ outside ] | false ↦ misspelt ]
 ended limits wrong = misspelt
 
+-- the key, `=`, and a number so spelled, in its limits
 unfoldable pub line : String → (List ℕ → Spelled) → Limits → List ℕ → Line
 line key spelling limits text =
     elim (after (bytes key ++ bytes "=") text) [ some rest ↦ ended limits (spelling rest) | none ↦ misspelt ]
@@ -87,12 +91,15 @@ pub data Parsed (A : Type 0) : Type 0 where
   parsed : A → List ℕ → Parsed A
   fault : Refusal → Parsed A
 
+-- a way of reading from the front of some bytes
 abbrev pub Parser : Type 0 → Type 0
 Parser A = List ℕ → Parsed A
 
+-- a result that reads nothing
 unfoldable pub return : {A : Type 0} → A → Parser A
 return a rest = parsed a rest
 
+-- one reading after the other: the first fault decides
 infixl 10 _>>=_
 unfoldable pub _>>=_ : {A B : Type 0} → Parser A → (A → Parser B) → Parser B
 _>>=_ p f text = elim (p text) [ parsed a rest ↦ f a rest | fault r ↦ fault r ]
@@ -105,19 +112,31 @@ times (suc n) p = do
   x ← p
   return (xs ++ (x ∷ []))
 
+-- a line's number, or its fault as a refusal
 unfoldable pub faults : Line → Parsed ℤ
 faults (holds z rest) = parsed z rest
 faults misspelt = fault Misspelt
 faults outside = fault OutOfRange
 
--- a field without a minus, whose number is never negative, and one that may have it
+-- a field without a minus, whose number is never negative
 unfoldable pub field : String → Limits → Parser ℕ
 field key limits = do
   z ← (λ text. faults (line key natural limits text))
   return (natAbs z)
 
+-- a field that may have a minus
 unfoldable pub signedField : String → Limits → Parser ℤ
 signedField key limits text = faults (line key signed limits text)
+
+-- the lines above the quantities
+unfoldable pub head : Parser Head
+head = do
+  n ← field "n" n-limits
+  steps ← field "steps" steps-limits
+  step ← field "step" step-limits
+  tail ← field "tail" tail-limits
+  tol ← field "tol" tol-limits
+  return (record { n = n; steps = steps; step = pos step; tail = tail; tol = tol })
 
 -- `start` alone may read `none`: no reading
 unfoldable pub start : Parser Start
@@ -129,12 +148,20 @@ start text =
         return (Reading z)) text
     ]
 
+-- a start and its radius
 unfoldable pub quantity : Parser Quantity
 quantity = do
   reading ← start
   radius ← field "radius" radius-limits
   return (record { start = reading; radius = radius })
 
+-- n quantities
+unfoldable pub quantities : ℕ → Parser (List Quantity)
+quantities n = do
+  list ← times n quantity
+  return (quantitiesHeld list)
+
+-- a term of n quantities
 unfoldable pub term : ℕ → Parser Term
 term n = do
   to ← field "to" (to-limits n)
@@ -143,38 +170,36 @@ term n = do
   second ← field "second" (second-limits n first)
   return (record { to = to; coef = coef; first = first; second = second })
 
+-- the terms of n quantities: first how many there are
+unfoldable pub terms : ℕ → Parser Terms
+terms n = do
+  count ← field "terms" terms-limits
+  list ← times count (term n)
+  return (termsHeld count list)
+
 -- bytes after the last line count as one more line, misspelt
 unfoldable pub end : {A : Type 0} → A → Parser A
 end a [] = parsed a []
 end a (b ∷ rest) = fault Misspelt
 
+-- what follows a head, to the end of the text
+unfoldable pub body : Head → Parser Sheet
+body head = do
+  quantities ← quantities (head .n)
+  terms ← terms (head .n)
+  end (record { head = head; quantities = quantities; terms = terms })
+
+-- a sheet, from its first line to the end of the text
 unfoldable pub sheet : Parser Sheet
 sheet = do
-  n ← field "n" n-limits
-  steps ← field "steps" steps-limits
-  step ← field "step" step-limits
-  tail ← field "tail" tail-limits
-  tol ← field "tol" tol-limits
-  quantities ← times n quantity
-  count ← field "terms" terms-limits
-  terms ← times count (term n)
-  end (record {
-    n = n;
-    steps = steps;
-    step = pos step;
-    tail = tail;
-    tol = tol;
-    quantity = padded 8 no-quantity quantities;
-    terms = count;
-    term = padded 32 no-term terms;
-  })
+  head ← head
+  body head
 
+-- what reading gives: the sheet, or the refusal and the sheet of zeros
 unfoldable pub accepted : Parsed Sheet → ReadSheet
 accepted (parsed x rest) = record { outcome = Accepted; sheet = x }
 accepted (fault r) = record { outcome = Refused r 0; sheet = no-sheet }
 
-unfoldable pub most-bytes : ℕ
-most-bytes = 4096
-
+-- the reading of a sheet's bytes: question 1, and then its lines
 unfoldable pub readSheet : List ℕ → ReadSheet
 readSheet text = accepted (elim (leb (length text) most-bytes) [ true ↦ sheet text | false ↦ fault Oversized ])

@@ -12,6 +12,7 @@ use Rattle.model.specs.Exact.{bringsℤ}
 use Rattle.model.specs.declared.Term.{Term}
 pub use Rattle.model.specs.declared.Ball.{Ball}
 
+-- what a list of balls reads as past its end
 unfoldable pub no-ball : Ball
 no-ball = record { value = pos 0; radius = 0 }
 
@@ -29,6 +30,7 @@ greatest balls = max scale (largest (length balls) (λ i. reach (getD balls i no
 unfoldable pub factors : Term → ℕ
 factors term = cond (eqb (term .first) 0) 0 (cond (eqb (term .second) 0) 1 2)
 
+-- what a term brings to a target's sum: x where it is its target, else nothing
 unfoldable pub brings : ℕ → Term → ℕ → ℕ
 brings target term x = cond (eqb (term .to) target) x 0
 
@@ -58,9 +60,13 @@ majorant G q (suc j) = up (majorant G q j * q) scale
 unfoldable pub tailAt : ℕ → ℕ → ℕ → ℕ
 tailAt G q k = up (majorant G q (suc k) * scale) (scale - q)
 
+-- the highest degree that a step can have
+abbrev pub most-degree : ℕ
+most-degree = 28
+
 -- the least k from 0 up whose tail is at most the sheet's; it never passes 28, so that a k is always found
 unfoldable pub degree : ℕ → ℕ → ℕ → ℕ
-degree G q limit = least 28 (λ k. leb (tailAt G q k) limit)
+degree G q limit = least most-degree (λ k. leb (tailAt G q k) limit)
 
 -- ---- coefficients
 
@@ -68,6 +74,7 @@ degree G q limit = least 28 (λ k. leb (tailAt G q k) limit)
 abbrev pub Coefficients : Type 0
 Coefficients = List (List Ball)
 
+-- c_k and e_k of quantity i
 unfoldable pub coefficient : Coefficients → ℕ → ℕ → Ball
 coefficient table k i = getD (getD table k []) i no-ball
 
@@ -115,6 +122,7 @@ coefficientsTo terms H balls (suc k) =
 
 -- ---- new row
 
+-- a row: its degree, and for each quantity a value and a radius
 pub record Row : Type 0 where
   pub degree : ℕ
   pub balls : List Ball
@@ -127,6 +135,7 @@ newBall table d tail i =
       radius = sum (suc d) (λ k. coefficient table k i .radius) + tail;
     }
 
+-- the row of degree d, with its tail
 unfoldable pub newRow : List Term → ℤ → List Ball → ℕ → ℕ → Row
 newRow terms H balls d tail =
     record { degree = d; balls = tabulate (length balls) (newBall (coefficientsTo terms H balls d) d tail) }

@@ -5,9 +5,10 @@ use mathlib.Core.Path.{_≡_}
 use lib.IntN.{ℤ, pos, _*ℤ_}
 use lib.ListN.{length, getD}
 use Rattle.rounding.specs.Enclosure.{Within}
-use Rattle.model.specs.Sheet.{scale}
+use Rattle.model.specs.Sheet.{scale, termsOf, startsOf}
 use Rattle.model.specs.Exact.{State, exactSum}
 use Rattle.model.specs.Step.{Ball, no-ball, Row}
+use Rattle.model.specs.declared.Sheet.{Sheet}
 use Rattle.model.specs.declared.Term.{Term}
 
 -- an exact state lies within radii of values: for every quantity, s times its number differs from the value by at most the radius
@@ -42,3 +43,7 @@ Trusted terms H tol starts rows =
     (degrees : List ℕ) → NoLower degrees rows →
     (j : ℕ) → j < length rows →
     LiesWithin (getD rows j no-row .balls) (stateAfter terms H degrees state (suc j)) × Tolerated tol (getD rows j no-row .balls)
+
+-- Demand 3, of rows of a sheet: from its start, by its step and its terms, within its tolerance.
+unfoldable pub TrustedOf : Sheet → List Row → Type 0
+TrustedOf sheet rows = Trusted (termsOf sheet) (sheet .head .step) (sheet .head .tol) (startsOf sheet) rows

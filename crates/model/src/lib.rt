@@ -1,5 +1,7 @@
-// The records of document 01: a sheet as numbers, and what comes of one. Here are only the types, over which specs/
-// says what document 01 means; the code that is proved against it is in the crates above.
+// The records of document 01: a sheet as numbers, and what comes of one, with the numbers of the refusals. specs/ says over
+// these what document 01 means; the code that is proved against it is in the crates above.
+ghost use mathlib.Core.Path.{_≡_};
+ghost use Rattle.model.specs.Sheet as sheet;
 
 // s: so many units make one whole.
 pub const SCALE: u64 = 16777216;
@@ -7,10 +9,44 @@ pub const SCALE: u64 = 16777216;
 // 32 wholes.
 pub const MOST: u64 = 536870912;
 
-// The most quantities and the most terms of a sheet.
-pub const QUANTITIES: usize = 8;
+// The most bytes of a sheet.
+pub const MOST_BYTES: usize = 4096;
 
-pub const TERMS: usize = 32;
+// The most digits of one of its numbers.
+pub const MOST_DIGITS: u64 = 9;
+
+// Its most quantities.
+pub const MOST_QUANTITIES: usize = 8;
+
+// Its most steps.
+pub const MOST_STEPS: usize = 400;
+
+// Its most terms.
+pub const MOST_TERMS: usize = 32;
+
+// The largest coefficient, without its sign: 16 wholes.
+pub const MOST_COEF: u64 = 268435456;
+
+// The largest ratio of a step: one half.
+pub const MOST_RATIO: u64 = 8388608;
+
+// The highest degree that a step can have.
+pub const MOST_DEGREE: usize = 28;
+
+// The numbers low .. high.
+pub struct Limits {
+    pub low: i64,
+    pub high: i64,
+}
+
+// The numbers above the quantities.
+pub struct Head {
+    pub n: usize,
+    pub steps: usize,
+    pub step: i64,
+    pub tail: u64,
+    pub tol: u64,
+}
 
 // A start in units, or no reading.
 pub enum Start {
@@ -33,16 +69,17 @@ pub struct Term {
     pub second: usize,
 }
 
-// A sheet: n quantities and `terms` terms. What stands in `quantity` and `term` past these counts means nothing.
+// The first `count` terms of the list. What stands past them means nothing.
+pub struct Terms {
+    pub count: usize,
+    pub list: [Term; MOST_TERMS],
+}
+
+// A sheet. What stands in `quantities` past the head's n means nothing.
 pub struct Sheet {
-    pub n: usize,
-    pub steps: usize,
-    pub step: i64,
-    pub tail: u64,
-    pub tol: u64,
-    pub quantity: [Quantity; QUANTITIES],
-    pub terms: usize,
-    pub term: [Term; TERMS],
+    pub head: Head,
+    pub quantities: [Quantity; MOST_QUANTITIES],
+    pub terms: Terms,
 }
 
 // A value with its radius, in units.
@@ -51,7 +88,13 @@ pub struct Ball {
     pub radius: u64,
 }
 
-// The questions' refusals, in document 01's order: specs/Sheet.antt gives each its number.
+// The values and radii of up to 8 quantities.
+pub struct Balls {
+    pub values: [i64; MOST_QUANTITIES],
+    pub radii: [u64; MOST_QUANTITIES],
+}
+
+// Every refusal, in the order of the numbers.
 pub enum Refusal {
     Oversized,
     Misspelt,
@@ -59,7 +102,7 @@ pub enum Refusal {
     NoReading,
     TooFewPlaces,
     TooLarge,
-    TooFast,
+    StepTooLong,
     Intolerable,
 }
 
@@ -70,7 +113,43 @@ pub enum Outcome {
 }
 
 // What reading a sheet gives: where it is refused, the sheet of zeros.
-pub struct Reading {
+pub struct ReadSheet {
     pub outcome: Outcome,
     pub sheet: Sheet,
+}
+
+// A refusal's number in document 01.
+pub fn number(refusal: Refusal) -> u64
+    ensures { λ r. ⌜ r ≡ sheet.number refusal ⌝ }
+{
+    match refusal {
+        Refusal::Oversized => 1,
+        Refusal::Misspelt => 2,
+        Refusal::OutOfRange => 3,
+        Refusal::NoReading => 4,
+        Refusal::TooFewPlaces => 5,
+        Refusal::TooLarge => 6,
+        Refusal::StepTooLong => 7,
+        Refusal::Intolerable => 8,
+    }
+}
+
+// What is printed as `result`.
+pub fn result(outcome: Outcome) -> u64
+    ensures { λ r. ⌜ r ≡ sheet.result outcome ⌝ }
+{
+    match outcome {
+        Outcome::Accepted => 0,
+        Outcome::Refused(refusal, _) => number(refusal),
+    }
+}
+
+// What is printed as `at`.
+pub fn refused_step(outcome: Outcome) -> u64
+    ensures { λ r. ⌜ r ≡ sheet.refusedStep outcome ⌝ }
+{
+    match outcome {
+        Outcome::Accepted => 0,
+        Outcome::Refused(_, step) => step as u64,
+    }
 }

@@ -3,6 +3,7 @@
 use libc::STDOUT_FILENO;
 ghost use Prim.Native.Nat.{_<_};
 
+// A number with its sign.
 fn print_signed(n: i64) {
     if n < 0 {
         io::write_all(STDOUT_FILENO, b"-");
@@ -10,6 +11,7 @@ fn print_signed(n: i64) {
     io::print_decimal(STDOUT_FILENO, rounding::magnitude(n));
 }
 
+// near(n, d), as a line.
 fn print_near(n: i64, d: u64)
     requires { ⌜ 0 < d ⌝ }
 {
@@ -22,6 +24,7 @@ fn print_near(n: i64, d: u64)
     io::write_all(STDOUT_FILENO, b"\n");
 }
 
+// up(n, d), as a line.
 fn print_up(n: u64, d: u64)
     requires { ⌜ 0 < d ⌝ }
 {
@@ -34,6 +37,7 @@ fn print_up(n: u64, d: u64)
     io::write_all(STDOUT_FILENO, b"\n");
 }
 
+// Cases of both roundings, at the ends of 64 bits too.
 fn main() {
     print_near(3, 2);
     print_near(-3, 2);
