@@ -1,14 +1,15 @@
 -- One parser after the other, by what the first gives; and the fields of the definitions as the reader's fields.
 use Prim.Native.Nat.{ℕ, _≤_}
 use Prim.Native.String.{String}
-use mathlib.Core.Path.{_≡_, refl, sym, ap, _∙_, subst}
+use mathlib.Core.Path.{_≡_, refl, sym, _∙_, subst}
 use mathlib.Core.Bool.{true, false}
 use mathlib.Core.List.{List, [], _∷_, _++_}
 use native.Mathlib.Omega.{arith}
 use borrow.Author.Tests.{le-leb}
 use Rattle.model.specs.Range.{bytes}
-use Rattle.model.specs.Sheet.{Limits, from_to_}
-use Rattle.model.specs.Reading.{Parsed, parsed, fault, Parser, return, _>>=_, line, field, signedField, end}
+use Rattle.model.specs.declared.Limits.{Limits}
+use Rattle.model.specs.Sheet.{from_to_}
+use Rattle.model.specs.Reading.{Parsed, parsed, fault, Parser, _>>=_, line, field, signedField, end}
 use Rattle.model.specs.declared.Refusal.{Refusal}
 use Rattle.model.specs.declared.Refusal.the-variants.{Misspelt}
 use Rattle.model.proofs.Verdicts.{in-range}
@@ -61,41 +62,6 @@ module _ (text : List ℕ) (key : String) (l : List ℕ) {held limits : Limits} 
     unfolding wholeRead
     signed-fault is = signed-after ∙ read-as (wholeRead text) told is
 
--- ---- what a result says of the parsers that gave it
-
--- p gave a value, and f of it the result
-pub record Bound {A B : Type 0} (p : Parser A) (f : A → Parser B) (l : List ℕ) (result : B) (end : List ℕ) : Type 0 where
-  pub value : A
-  pub next : List ℕ
-  pub front : p l ≡ parsed value next
-  pub back : f value next ≡ parsed result end
-
-pub bound : {A B : Type 0} (p : Parser A) (f : A → Parser B) (l : List ℕ) {b : B} {m : List ℕ} → (p >>= f) l ≡ parsed b m → Bound p f l b m
-unfolding _>>=_
-bound {A} {B} p f l {b} {m} e = go (p l) refl e
-  where
-    go : (q : Parsed A) → p l ≡ q → elim q [ parsed a next ↦ f a next | fault r ↦ fault r ] ≡ parsed b m → Bound p f l b m
-    go (parsed a next) is e = record { value = a; next = next; front = is; back = e }
-    go (fault r) is e = absurd (let z : _≡_ {A = ℕ} 0 1 = cc in omega arith)
-
--- p gave a value whose image is the result
-pub record Mapped {A B : Type 0} (p : Parser A) (f : A → B) (l : List ℕ) (result : B) (end : List ℕ) : Type 0 where
-  pub value : A
-  pub front : p l ≡ parsed value end
-  pub image : f value ≡ result
-
-pub mapped : {A B : Type 0} (p : Parser A) (f : A → B) (l : List ℕ) {b : B} {m : List ℕ} → (p >>= (λ (a : A). return (f a))) l ≡ parsed b m → Mapped p f l b m
-unfolding return
-mapped {A} {B} p f l {b} {m} e = let came = bound p (λ (a : A). return (f a)) l e in record { value = came .value; front = came .front ∙ ap (parsed (came .value)) (cc (came .back)); image = cc (came .back) }
-
-pub mapped-fault : {A B : Type 0} (p : Parser A) (f : A → B) (l : List ℕ) {r : Refusal} → (p >>= (λ (a : A). return (f a))) l ≡ fault r → p l ≡ fault r
-unfolding _>>=_ return
-mapped-fault {A} {B} p f l {r} e = go (p l) refl e
-  where
-    go : (q : Parsed A) → p l ≡ q → _≡_ {A = Parsed B} (elim q [ parsed a next ↦ parsed (f a) next | fault r ↦ fault r ]) (fault r) → p l ≡ fault r
-    go (parsed a next) is e = absurd (let z : _≡_ {A = ℕ} 0 1 = cc in omega arith)
-    go (fault r) is e = cc
-
 -- ---- the end of a text
 
 module _ {A : Type 0} (a : A) where
@@ -112,7 +78,7 @@ module _ {A : Type 0} (a : A) where
 -- ---- a field that was read is in its range
 
 -- a result has the property that the parser yields
-yielded : {A : Type 0} {P : A → Type 0} {p : Parser A} → Yields P p → (l : List ℕ) {a : A} {m : List ℕ} → p l ≡ parsed a m → P a
+pub yielded : {A : Type 0} {P : A → Type 0} {p : Parser A} → Yields P p → (l : List ℕ) {a : A} {m : List ℕ} → p l ≡ parsed a m → P a
 yielded {A} {P} {p} yields l {a} {m} e = go (p l) (yields .on l) e
   where
     go : (q : Parsed A) → Delivers P q → q ≡ parsed a m → P a

@@ -14,7 +14,8 @@ use lib.Signed.{ltZ}
 use lib.ListN.{length, getD, drop}
 use lib.Seq.{drop-cons, drop-length}
 use Rattle.model.specs.Reading.{spelled, wrong, isDigit, digits, natural, negated, signed, after, ended, holds, misspelt, outside}
-use Rattle.model.specs.Sheet.{Limits, within}
+use Rattle.model.specs.declared.Limits.{Limits}
+use Rattle.model.specs.Sheet.{most-digits, within}
 use Rattle.lines.specs.Places.{digit, other, frontDigit}
 
 -- What an answer r is read as by f, where r is a: the definition's value is what a is read as.
@@ -105,7 +106,7 @@ pub natural-zero : (l : List ℕ) {d : ℕ} {m : List ℕ} → frontDigit l ≡ 
 unfolding natural
 natural-zero l e zero-is = let f = front-digit l e in rw (f .front, f .is-digit, eq-eqb (f .byte) 48 (omega (arith, f .value, digit-range (f .is-digit))), natural)
 
-pub natural-digits : (l : List ℕ) {d : ℕ} {m : List ℕ} → frontDigit l ≡ digit d m → (d ≡ 0 → ⊥) → natural l ≡ digits 8 d m
+pub natural-digits : (l : List ℕ) {d : ℕ} {m : List ℕ} → frontDigit l ≡ digit d m → (d ≡ 0 → ⊥) → natural l ≡ digits (most-digits - 1) d m
 unfolding natural
 natural-digits l e not-zero =
     let f = front-digit l e in

@@ -7,10 +7,10 @@ use mathlib.Core.Option.{Option, some, none}
 use lib.ListN.{drop}
 use Rattle.model.specs.Reading.{isDigit, natural, signed, after, ended, spelled, wrong, holds, misspelt, outside}
 use Rattle.model.specs.Reading as model
-use Rattle.model.specs.Sheet.{Limits}
+use Rattle.model.specs.declared.Limits.{Limits}
 use Rattle.lines.specs.declared.cursor.Cursor.{Cursor}
-use Rattle.lines.specs.declared.cursor.Step.{Step}
-use Rattle.lines.specs.declared.cursor.Step.the-variants.{Byte, End}
+use Rattle.lines.specs.declared.cursor.NextByte.{NextByte}
+use Rattle.lines.specs.declared.cursor.NextByte.the-variants.{Byte, End}
 use Rattle.lines.specs.declared.cursor.Digit.{Digit}
 use Rattle.lines.specs.declared.cursor.Digit.the-variants.{Value, Other}
 use Rattle.lines.specs.declared.cursor.Spelled.{Spelled}
@@ -24,31 +24,37 @@ use Rattle.lines.specs.declared.cursor.Line.the-variants as line
 unfoldable pub rest : List ℕ → Cursor → List ℕ
 rest text cursor = drop (cursor .at) text
 
-unfoldable pub stepped : List ℕ → Step → List ℕ
-stepped text (Byte b next) = b ∷ rest text next
-stepped text End = []
+-- the byte that was read and those after it, or none at the end
+unfoldable pub byteRead : List ℕ → NextByte → List ℕ
+byteRead text (Byte b next) = b ∷ rest text next
+byteRead text End = []
 
+-- whether no byte is left
 unfoldable pub empty : List ℕ → Bool
 empty [] = true
 empty (b ∷ rest) = false
 
--- the digit at the front of some bytes, with the bytes after it
+-- what stands at the front of some bytes: a digit with the bytes after it, or anything else
 pub data Front : Type 0 where
   digit : ℕ → List ℕ → Front
   other : Front
 
+-- the digit at the front of some bytes ..
 unfoldable pub frontDigit : List ℕ → Front
 frontDigit [] = other
 frontDigit (b ∷ rest) = elim (isDigit b) [ true ↦ digit (b - code "0") rest | false ↦ other ]
 
+-- .. and the digit that was read
 unfoldable pub digitRead : List ℕ → Digit → Front
 digitRead text (Value d next) = digit d (rest text next)
 digitRead text Other = other
 
+-- the number that was read, with the bytes after it
 unfoldable pub spelledAt : List ℕ → Spelled → model.Spelled
 spelledAt text (Number z next) = spelled z (rest text next)
 spelledAt text Wrong = wrong
 
+-- the bytes after a text that was found
 unfoldable pub foundAfter : List ℕ → After → Option (List ℕ)
 foundAfter text (Here next) = some (rest text next)
 foundAfter text Elsewhere = none
@@ -58,6 +64,7 @@ unfoldable pub spelling : Bool → List ℕ → model.Spelled
 spelling true = signed
 spelling false = natural
 
+-- what a line held that was read, with the bytes after it
 unfoldable pub lineAt : List ℕ → Line → model.Line
 lineAt text (line.Number z next) = holds z (rest text next)
 lineAt text line.Misspelt = misspelt

@@ -1,19 +1,20 @@
 // Document 01, 'The sheet': a place in a text, and what is read from there. A cursor goes in by value; what is read comes
 // back with the moved cursor, so that each line is read from the place where the last one ended.
 ghost use mathlib.Core.Path.{_≡_};
-ghost use Prim.Native.Nat.{_<_};
+ghost use Prim.Native.Nat.{_-_, _<_};
+ghost use Rattle.model.specs.Sheet.{«most-digits»};
 ghost use Rattle.model.specs.Reading as model;
-ghost use Rattle.lines.specs.Ranges.{limitsOf};
-ghost use Rattle.lines.specs.Places.{rest, stepped, empty, digitRead, frontDigit, spelledAt, foundAfter, spelling, lineAt, lineAfter};
-use crate::limits;
-use crate::limits::Limits;
+ghost use Rattle.lines.specs.Places.{rest, byteRead, empty, digitRead, frontDigit, spelledAt, foundAfter, spelling, lineAt, lineAfter};
+use model::Limits;
+use model::MOST_DIGITS;
 
+// A place in a text: how many bytes stand before it.
 pub struct Cursor {
     pub at: usize,
 }
 
 // The byte at a cursor, or the end of the text.
-pub enum Step {
+pub enum NextByte {
     Byte(u8, Cursor),
     End,
 }
@@ -43,6 +44,7 @@ pub enum Line {
     Outside,
 }
 
+// Whether a byte is one of 0 to 9.
 fn is_digit(b: u8) -> bool
     ensures { λ r. ⌜ r ≡ model.isDigit b ⌝ }
 {
@@ -50,14 +52,15 @@ fn is_digit(b: u8) -> bool
 }
 
 impl Cursor {
-    pub fn step(self, text: &[u8]) -> Step
-        ensures { λ r. ⌜ stepped (now (text .entry)) r ≡ rest (now (text .entry)) self ⌝ }
+    // The byte here, and the place after it.
+    pub fn next_byte(self, text: &[u8]) -> NextByte
+        ensures { λ r. ⌜ byteRead (now (text .entry)) r ≡ rest (now (text .entry)) self ⌝ }
     {
         let at = self.at;
         if at < text.len() {
-            Step::Byte(text[at], Cursor { at: at + 1 })
+            NextByte::Byte(text[at], Cursor { at: at + 1 })
         } else {
-            Step::End
+            NextByte::End
         }
     }
 
@@ -65,16 +68,17 @@ impl Cursor {
     pub fn at_end(self, text: &[u8]) -> bool
         ensures { λ r. ⌜ r ≡ empty (rest (now (text .entry)) self) ⌝ }
     {
-        match self.step(text) {
-            Step::Byte(_, _) => false,
-            Step::End => true,
+        match self.next_byte(text) {
+            NextByte::Byte(_, _) => false,
+            NextByte::End => true,
         }
     }
 
+    // The digit here, and the place after it.
     fn digit(self, text: &[u8]) -> Digit
         ensures { λ r. ⌜ digitRead (now (text .entry)) r ≡ frontDigit (rest (now (text .entry)) self) ⌝ }
     {
-        let Step::Byte(b, next) = self.step(text) else {
+        let NextByte::Byte(b, next) = self.next_byte(text) else {
             return Digit::Other;
         };
         if is_digit(b) {
@@ -84,15 +88,15 @@ impl Cursor {
         }
     }
 
-    // The digits after the first: at most eight.
+    // The digits after the first, up to the most that a number may have.
     fn digits(self, text: &[u8], first: u64) -> Spelled
         requires { ⌜ first < 10 ⌝ }
-        ensures { λ r. ⌜ spelledAt (now (text .entry)) r ≡ model.digits 8 first (rest (now (text .entry)) self) ⌝ }
+        ensures { λ r. ⌜ spelledAt (now (text .entry)) r ≡ model.digits (most-digits - 1) first (rest (now (text .entry)) self) ⌝ }
     {
         let mut cursor = self;
         let mut value = first;
         let mut read: u64 = 1;
-        while read < 9 {
+        while read < MOST_DIGITS {
             let Digit::Value(d, next) = cursor.digit(text) else {
                 return Spelled::Number(value as i64, cursor);
             };
@@ -103,6 +107,7 @@ impl Cursor {
         Spelled::Number(value as i64, cursor)
     }
 
+    // One to nine digits, no leading zero except 0 itself.
     fn natural(self, text: &[u8]) -> Spelled
         ensures { λ r. ⌜ spelledAt (now (text .entry)) r ≡ model.natural (rest (now (text .entry)) self) ⌝ }
     {
@@ -130,10 +135,11 @@ impl Cursor {
         }
     }
 
+    // A number that may have a minus.
     fn signed(self, text: &[u8]) -> Spelled
         ensures { λ r. ⌜ spelledAt (now (text .entry)) r ≡ model.signed (rest (now (text .entry)) self) ⌝ }
     {
-        let Step::Byte(b, next) = self.step(text) else {
+        let NextByte::Byte(b, next) = self.next_byte(text) else {
             return Spelled::Wrong;
         };
         if b == b'-' {
@@ -160,7 +166,7 @@ impl Cursor {
     {
         let mut cursor = self;
         for k in 0..key.len() {
-            let Step::Byte(b, next) = cursor.step(text) else {
+            let NextByte::Byte(b, next) = cursor.next_byte(text) else {
                 return After::Elsewhere;
             };
             if key[k] != b {
@@ -173,10 +179,10 @@ impl Cursor {
 
     // A number was read up to here: a missing line feed decides before the number's range.
     fn ended(self, text: &[u8], z: i64, limits: Limits) -> Line
-        ensures { λ r. ⌜ lineAt (now (text .entry)) r ≡ model.ended (limitsOf limits) (model.spelled z (rest (now (text .entry)) self)) ⌝ }
+        ensures { λ r. ⌜ lineAt (now (text .entry)) r ≡ model.ended limits (model.spelled z (rest (now (text .entry)) self)) ⌝ }
     {
         let fits = limits::within(limits, z);
-        let Step::Byte(b, next) = self.step(text) else {
+        let NextByte::Byte(b, next) = self.next_byte(text) else {
             return Line::Misspelt;
         };
         if b != b'\n' {
@@ -191,7 +197,7 @@ impl Cursor {
 
     // One line: the key with its equals sign, a number in its limits, a line feed.
     pub fn line(self, text: &[u8], key: &[u8], minus: bool, limits: Limits) -> Line
-        ensures { λ r. ⌜ lineAt (now (text .entry)) r ≡ lineAfter (now (key .entry)) minus (limitsOf limits) (rest (now (text .entry)) self) ⌝ }
+        ensures { λ r. ⌜ lineAt (now (text .entry)) r ≡ lineAfter (now (key .entry)) minus limits (rest (now (text .entry)) self) ⌝ }
     {
         let After::Here(value) = self.after(text, key) else {
             return Line::Misspelt;

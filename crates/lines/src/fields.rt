@@ -1,12 +1,11 @@
 // Document 01, question 2: a field, given by its key with the equals sign, on its line; or the refusal of a line that is
 // not right.
 ghost use mathlib.Core.Path.{_≡_};
-ghost use Rattle.lines.specs.Ranges.{limitsOf};
 ghost use Rattle.lines.specs.Places.{rest};
 ghost use Rattle.lines.specs.Fields.{wholeRead, wholeAfter, naturalRead, naturalAfter};
 use crate::cursor::Cursor;
 use crate::cursor::Line;
-use crate::limits::Limits;
+use model::Limits;
 use model::Refusal;
 
 // A number that may be negative, and the cursor after its line.
@@ -15,6 +14,7 @@ pub struct Whole {
     pub next: Cursor,
 }
 
+// What such a line holds, or its refusal.
 pub enum WholeLine {
     Holds(Whole),
     Fault(Refusal),
@@ -26,14 +26,16 @@ pub struct Natural {
     pub next: Cursor,
 }
 
+// What such a line holds, or its refusal.
 pub enum NaturalLine {
     Holds(Natural),
     Fault(Refusal),
 }
 
 impl Cursor {
+    // A field before whose number a minus may be allowed.
     pub fn whole_field(self, text: &[u8], key: &[u8], minus: bool, limits: Limits) -> WholeLine
-        ensures { λ r. ⌜ wholeRead (now (text .entry)) r ≡ wholeAfter (now (key .entry)) minus (limitsOf limits) (rest (now (text .entry)) self) ⌝ }
+        ensures { λ r. ⌜ wholeRead (now (text .entry)) r ≡ wholeAfter (now (key .entry)) minus limits (rest (now (text .entry)) self) ⌝ }
     {
         match self.line(text, key, minus, limits) {
             Line::Number(z, next) => WholeLine::Holds(Whole { value: z, next }),
@@ -42,8 +44,9 @@ impl Cursor {
         }
     }
 
+    // A field without a minus.
     pub fn natural_field(self, text: &[u8], key: &[u8], limits: Limits) -> NaturalLine
-        ensures { λ r. ⌜ naturalRead (now (text .entry)) r ≡ naturalAfter (now (key .entry)) (limitsOf limits) (rest (now (text .entry)) self) ⌝ }
+        ensures { λ r. ⌜ naturalRead (now (text .entry)) r ≡ naturalAfter (now (key .entry)) limits (rest (now (text .entry)) self) ⌝ }
     {
         match self.whole_field(text, key, false, limits) {
             WholeLine::Holds(field) => {

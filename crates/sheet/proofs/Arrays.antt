@@ -15,7 +15,7 @@ use Rattle.model.specs.declared.Refusal.{Refusal}
 use Rattle.model.specs.declared.Outcome.{Outcome}
 use Rattle.model.specs.declared.Outcome.the-variants.{Accepted, Refused}
 use Rattle.lines.proofs.Parsers.{bind-parsed, bind-fault}
-use Rattle.sheet.specs.Sheets.{filled}
+use Rattle.sheet.specs.Parts.{withOutcome}
 
 module _ {A : Type 0} (p : Parser A) (from : List ℕ) where
   one-more : (i : ℕ) {xs : List A} {x : A} {here next : List ℕ} → times i p from ≡ parsed xs here → p here ≡ parsed x next → times (suc i) p from ≡ parsed (xs ++ (x ∷ [])) next
@@ -55,23 +55,25 @@ module _ {A : Type 0} (p : Parser A) (size : ℕ) (none : A) (from : List ℕ) w
       rest-past : drop (suc i) list ≡ replicate (size - suc i) none
       rest-past = rw (← add-one i, ← drop-drop 1 i list, f .past, one-less, add-one i)
 
-  pub filled-fault : (n : ℕ) {i : ℕ} {list : List A} {here : List ℕ} {r : Refusal} → i < n → Filled i list here → p here ≡ fault r → (times n p >>= (λ (xs : List A). return (padded size none xs))) from ≡ fault r
-  filled-fault n h f e = bind-fault _ _ (first-fault p from n h (f .so-far) e)
+  -- what is made of so many, once they are read, and the array is filled up
+  module _ {B : Type 0} (made : List A → B) (n : ℕ) {i : ℕ} {list : List A} {here : List ℕ} where
+    pub filled-fault : {r : Refusal} → i < n → Filled i list here → p here ≡ fault r → (times n p >>= (λ (xs : List A). return (made (padded size none xs)))) from ≡ fault r
+    filled-fault h f e = bind-fault _ _ (first-fault p from n h (f .so-far) e)
 
-  pub filled-all : (n : ℕ) {i : ℕ} {list : List A} {here : List ℕ} → n ≡ i → n ≤ size → Filled i list here → (times n p >>= (λ (xs : List A). return (padded size none xs))) from ≡ parsed list here
-  unfolding return padded
-  filled-all n {i} {list} {here} all h f = bind-parsed _ _ (ap (λ (k : ℕ). times k p from) all ∙ f .so-far) ∙ ap (λ (xs : List A). parsed xs here) whole
-    where
-      whole : take i list ++ replicate (size - length (take i list)) none ≡ list
-      whole = rw (length-take-le i list (rw (f .long) (omega arith)), ← f .past) (take-append-drop i list)
+    pub filled-all : n ≡ i → n ≤ size → Filled i list here → (times n p >>= (λ (xs : List A). return (made (padded size none xs)))) from ≡ parsed (made list) here
+    unfolding return padded
+    filled-all all h f = bind-parsed _ _ (ap (λ (k : ℕ). times k p from) all ∙ f .so-far) ∙ ap (λ (xs : List A). parsed (made xs) here) whole
+      where
+        whole : take i list ++ replicate (size - length (take i list)) none ≡ list
+        whole = rw (length-take-le i list (rw (f .long) (omega arith)), ← f .past) (take-append-drop i list)
 
--- ---- the array that the reader hands back
+-- ---- what the reader hands back
 
-module _ {A : Type 0} (list : List A) (l : List ℕ) where
-  pub filled-accepted : {o : Outcome} → o ≡ Accepted → filled o list l ≡ parsed list l
-  unfolding filled
-  filled-accepted e = rw e
+module _ {A : Type 0} (a : A) (l : List ℕ) where
+  pub accepted-with : {o : Outcome} → o ≡ Accepted → withOutcome o a l ≡ parsed a l
+  unfolding withOutcome
+  accepted-with e = rw e
 
-  pub filled-refused : {o : Outcome} {r : Refusal} {step : ℕ} → o ≡ Refused r step → filled o list l ≡ fault r
-  unfolding filled
-  filled-refused e = rw e
+  pub refused-with : {o : Outcome} {r : Refusal} {step : ℕ} → o ≡ Refused r step → withOutcome o a l ≡ fault r
+  unfolding withOutcome
+  refused-with e = rw e

@@ -3,22 +3,19 @@
 use mathlib.Core.Path.{_≡_, _∙_, sym}
 use mathlib.Core.List.{_∷_}
 use denote.Ref.{now}
-use Rattle.lines.specs.Places.{rest, stepped, digitRead, frontDigit}
+use Rattle.lines.specs.Places.{rest, byteRead, digitRead, frontDigit}
 use Rattle.lines.proofs.Spellings.{read-as, digit-range, digit-first, no-digit-first}
 use borrow.Author.Needs.{needs}
 use Rattle.lines.proofs.cursor.Cursor.digit.Statement.{statement}
 use Rattle.lines.proofs.cursor.Cursor.digit.Tie as tie
 
 returns : tie.Need-returns
-unfolding stepped digitRead frontDigit
-returns c = rw (read-as (stepped (now (c .before .before .before .before .args .text))) (c .before .before .step .ensures) (c .enum-told .given .1))
+unfolding byteRead digitRead frontDigit
+returns c = rw (read-as (byteRead (now (c .before .before .before .before .args .text))) (c .before .before .next-byte .ensures) (c .enum-told .given .1))
 
 byte-first : (c : tie.After-b) → rest (now (c .before .before .before .before .args .text)) (c .before .before .before .before .args .self) ≡ c .b .given .0 .0 ∷ rest (now (c .before .before .before .before .args .text)) (c .b .given .0 .1 .0)
-unfolding stepped
-byte-first c = read-as (stepped (now (c .before .before .before .before .args .text))) (c .before .before .step .ensures) (c .b .given .1)
-
-sub-t8 : tie.Need-sub-t8
-sub-t8 c = digit-range (sym (c .before .is-digit .ensures) ∙ c .if1 .taken) .0
+unfolding byteRead
+byte-first c = read-as (byteRead (now (c .before .before .before .before .args .text))) (c .before .before .next-byte .ensures) (c .b .given .1)
 
 returns-2 : tie.Need-returns-2
 unfolding digitRead
@@ -28,8 +25,11 @@ returns-3 : tie.Need-returns-3
 unfolding digitRead
 returns-3 c = sym (no-digit-first (byte-first (c .before .before .before)) (sym (c .before .is-digit .ensures) ∙ c .if1 .left))
 
-step-requires : tie.Need-step-requires
-step-requires c κs = search needs
+sub-t8 : tie.Need-sub-t8
+sub-t8 c = digit-range (sym (c .before .is-digit .ensures) ∙ c .if1 .taken) .0
+
+next-byte-requires : tie.Need-next-byte-requires
+next-byte-requires c κs = search needs
 
 enum-known-b : tie.Need-enum-known-b
 enum-known-b c = search needs
@@ -47,7 +47,7 @@ pub digit-spec : {M : Type 1} → statement M
 digit-spec =
     tie.close
     (tie.spec
-    step-requires
+    next-byte-requires
     enum-known-b
     enum-told
     returns

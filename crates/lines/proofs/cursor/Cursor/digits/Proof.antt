@@ -11,6 +11,7 @@ use denote.Ref.{now}
 use lib.IntN.{pos}
 use mir.Syntax.{w64}
 use mir.Facts.{toZ-pos}
+use Rattle.model.specs.Sheet.{most-digits}
 use Rattle.model.specs.Reading.{spelled, digits}
 use Rattle.lines.specs.Places.{rest, digitRead, spelledAt, frontDigit, digit, other}
 use Rattle.lines.proofs.Spellings.{read-as, front-digit-small, digits-go, digits-stop}
@@ -20,24 +21,68 @@ use Rattle.lines.proofs.cursor.Cursor.digits.Tie as tie
 
 abbrev Inv-loop : tie.InvT-loop
 Inv-loop text first cursor₀ value₀ read₀ cursor value read =
-    (read ≤ 9) × (value < 10 ^ read) × (digits (9 - read) value (rest text cursor) ≡ digits 8 first (rest text cursor₀))
+    (read ≤ most-digits) × (value < 10 ^ read) × (digits (most-digits - read) value (rest text cursor) ≡ digits (most-digits - 1) first (rest text cursor₀))
 
 abbrev μ-loop : tie.MeasureT-loop
-μ-loop text first cursor₀ value₀ read₀ cursor value read = 9 - read
+μ-loop text first cursor₀ value₀ read₀ cursor value read = most-digits - read
 
 -- ---- a number of at most nine digits
 
-small : {value read : ℕ} → read ≤ 9 → value < 10 ^ read → value < 1000000000
+small : {value read : ℕ} → read ≤ most-digits → value < 10 ^ read → value < 1000000000
 small h below = omega (arith, pow-le-pow-right {n = 10} (omega arith) h)
 
 one-digit-more : {value d : ℕ} (read : ℕ) → value < 10 ^ read → d < 10 → value * 10 + d < 10 ^ (read + 1)
 one-digit-more read h small = rw (add-one read, pow-suc) (omega arith)
 
-one-less : {read : ℕ} → read < 9 → 9 - read ≡ suc (9 - (read + 1))
+one-less : {read : ℕ} → read < most-digits → most-digits - read ≡ suc (most-digits - (read + 1))
 one-less h = omega arith
 
 loop-holds : tie.Need-loop-holds Inv-loop μ-loop
 loop-holds c = (omega arith, c .before .pre, refl)
+
+module _ {read : ℕ} (value : ℕ) (l : List ℕ) where
+  stopped : read < most-digits → frontDigit l ≡ other → digits (most-digits - read) value l ≡ spelled (pos value) l
+  stopped h e = ap (λ (more : ℕ). digits more value l) (one-less h) ∙ digits-stop (most-digits - (read + 1)) value l e
+
+  one-more : {d : ℕ} {m : List ℕ} → read < most-digits → frontDigit l ≡ digit d m → digits (most-digits - read) value l ≡ digits (most-digits - (read + 1)) (value * 10 + d) m
+  one-more h e = ap (λ (more : ℕ). digits more value l) (one-less h) ∙ digits-go (most-digits - (read + 1)) value l e
+
+  none-left : read ≤ most-digits → most-digits ≤ read → digits (most-digits - read) value l ≡ spelled (pos value) l
+  unfolding digits
+  none-left h g = ap (λ (more : ℕ). digits more value l) none
+    where
+      none : most-digits - read ≡ 0
+      none = omega arith
+
+returns : tie.Need-returns Inv-loop μ-loop
+unfolding spelledAt digitRead
+returns c =
+    let at-loop = c .before .before .before .before in
+    let text = now (at-loop .before .before .args .text) in
+    rw (toZ-pos w64 {n = at-loop .loop .value} (omega (arith, small (at-loop .loop .inv .0) (at-loop .loop .inv .1))))
+    (sym (stopped (at-loop .loop .value) (rest text (at-loop .loop .cursor)) (c .before .before .before .loop-test .taken) (read-as (digitRead text) (c .before .before .digit .ensures) (c .enum-told .given .1))) ∙ at-loop .loop .inv .2)
+
+digit-first : (c : tie.After-d Inv-loop μ-loop) → frontDigit (rest (now (c .before .before .before .before .before .before .args .text)) (c .before .before .before .before .loop .cursor)) ≡ digit (c .d .given .0 .0) (rest (now (c .before .before .before .before .before .before .args .text)) (c .d .given .0 .1 .0))
+unfolding digitRead
+digit-first c = read-as (digitRead (now (c .before .before .before .before .before .before .args .text))) (c .before .before .digit .ensures) (c .d .given .1)
+
+digit-small : (c : tie.After-d Inv-loop μ-loop) → c .d .given .0 .0 < 10
+digit-small c = front-digit-small _ (digit-first c)
+
+loop-again : tie.Need-loop-again Inv-loop μ-loop
+loop-again c =
+    let at-loop = c .before .before .before .before .before in (
+      omega arith,
+      one-digit-more (at-loop .loop .read) (at-loop .loop .inv .1) (digit-small (c .before)),
+      sym (one-more (at-loop .loop .value) _ (c .before .before .before .before .loop-test .taken) (digit-first (c .before))) ∙ at-loop .loop .inv .2,
+    )
+
+returns-2 : tie.Need-returns-2 Inv-loop μ-loop
+unfolding spelledAt
+returns-2 c =
+    let at-loop = c .before in
+    rw (toZ-pos w64 {n = at-loop .loop .value} (omega (arith, small (at-loop .loop .inv .0) (at-loop .loop .inv .1))))
+    (sym (none-left (at-loop .loop .value) (rest (now (at-loop .before .before .args .text)) (at-loop .loop .cursor)) (at-loop .loop .inv .0) (c .loop-test .left)) ∙ at-loop .loop .inv .2)
 
 digit-requires : tie.Need-digit-requires Inv-loop μ-loop
 digit-requires c κs = search needs
@@ -48,43 +93,14 @@ enum-known-d c = search needs
 enum-told : tie.Need-enum-told Inv-loop μ-loop
 enum-told c = search needs
 
-module _ {read : ℕ} (value : ℕ) (l : List ℕ) where
-  stopped : read < 9 → frontDigit l ≡ other → digits (9 - read) value l ≡ spelled (pos value) l
-  stopped h e = ap (λ (more : ℕ). digits more value l) (one-less h) ∙ digits-stop (9 - (read + 1)) value l e
-
-  one-more : {d : ℕ} {m : List ℕ} → read < 9 → frontDigit l ≡ digit d m → digits (9 - read) value l ≡ digits (9 - (read + 1)) (value * 10 + d) m
-  one-more h e = ap (λ (more : ℕ). digits more value l) (one-less h) ∙ digits-go (9 - (read + 1)) value l e
-
-  none-left : read ≤ 9 → 9 ≤ read → digits (9 - read) value l ≡ spelled (pos value) l
-  unfolding digits
-  none-left h g = ap (λ (more : ℕ). digits more value l) none
-    where
-      none : 9 - read ≡ 0
-      none = omega arith
-
 cast-t11 : tie.Need-cast-t11 Inv-loop μ-loop
-cast-t11 c = let at = c .before .before .before .before in record { sfits = omega (arith, small (at .loop .inv .0) (at .loop .inv .1)) }
-
-returns : tie.Need-returns Inv-loop μ-loop
-unfolding spelledAt digitRead
-returns c =
-    let at = c .before .before .before .before in
-    let text = now (at .before .before .args .text) in
-    rw (toZ-pos w64 {n = at .loop .value} (omega (arith, small (at .loop .inv .0) (at .loop .inv .1))))
-    (sym (stopped (at .loop .value) (rest text (at .loop .cursor)) (c .before .before .before .loop-test .taken) (read-as (digitRead text) (c .before .before .digit .ensures) (c .enum-told .given .1))) ∙ at .loop .inv .2)
-
-digit-first : (c : tie.After-d Inv-loop μ-loop) → frontDigit (rest (now (c .before .before .before .before .before .before .args .text)) (c .before .before .before .before .loop .cursor)) ≡ digit (c .d .given .0 .0) (rest (now (c .before .before .before .before .before .before .args .text)) (c .d .given .0 .1 .0))
-unfolding digitRead
-digit-first c = read-as (digitRead (now (c .before .before .before .before .before .before .args .text))) (c .before .before .digit .ensures) (c .d .given .1)
-
-digit-small : (c : tie.After-d Inv-loop μ-loop) → c .d .given .0 .0 < 10
-digit-small c = front-digit-small _ (digit-first c)
+cast-t11 c = let at-loop = c .before .before .before .before in record { sfits = omega (arith, small (at-loop .loop .inv .0) (at-loop .loop .inv .1)) }
 
 mul-value : tie.Need-mul-value Inv-loop μ-loop
-mul-value c = let at = c .before .before .before .before .before in omega (arith, small (at .loop .inv .0) (at .loop .inv .1))
+mul-value c = let at-loop = c .before .before .before .before .before in omega (arith, small (at-loop .loop .inv .0) (at-loop .loop .inv .1))
 
 add-value : tie.Need-add-value Inv-loop μ-loop
-add-value c = let at = c .before .before .before .before .before in omega (arith, small (at .loop .inv .0) (at .loop .inv .1), digit-small (c .before))
+add-value c = let at-loop = c .before .before .before .before .before in omega (arith, small (at-loop .loop .inv .0) (at-loop .loop .inv .1), digit-small (c .before))
 
 add-read : tie.Need-add-read Inv-loop μ-loop
 add-read c = omega arith
@@ -92,23 +108,8 @@ add-read c = omega arith
 loop-less : tie.Need-loop-less Inv-loop μ-loop
 loop-less c = omega arith
 
-loop-again : tie.Need-loop-again Inv-loop μ-loop
-loop-again c =
-    let at = c .before .before .before .before .before in (
-      omega arith,
-      one-digit-more (at .loop .read) (at .loop .inv .1) (digit-small (c .before)),
-      sym (one-more (at .loop .value) _ (c .before .before .before .before .loop-test .taken) (digit-first (c .before))) ∙ at .loop .inv .2,
-    )
-
 cast-t13 : tie.Need-cast-t13 Inv-loop μ-loop
 cast-t13 c = record { sfits = omega (arith, small (c .before .loop .inv .0) (c .before .loop .inv .1)) }
-
-returns-2 : tie.Need-returns-2 Inv-loop μ-loop
-unfolding spelledAt
-returns-2 c =
-    let at = c .before in
-    rw (toZ-pos w64 {n = at .loop .value} (omega (arith, small (at .loop .inv .0) (at .loop .inv .1))))
-    (sym (none-left (at .loop .value) (rest (now (at .before .before .args .text)) (at .loop .cursor)) (at .loop .inv .0) (c .loop-test .left)) ∙ at .loop .inv .2)
 
 pub digits-spec : {M : Type 1} → statement M
 digits-spec =

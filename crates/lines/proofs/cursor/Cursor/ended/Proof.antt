@@ -6,26 +6,25 @@ use mathlib.Core.List.{List, _∷_}
 use denote.Ref.{now}
 use mir.Facts.{toZ-ofZ}
 use Rattle.model.specs.Sheet.{within}
-use Rattle.lines.specs.Ranges.{limitsOf}
-use Rattle.lines.specs.Places.{rest, stepped, lineAt}
+use Rattle.lines.specs.Places.{rest, byteRead, lineAt}
 use Rattle.lines.proofs.Spellings.{read-as, ended-short, ended-other, ended-within, ended-outside}
 use borrow.Author.Needs.{needs}
 use Rattle.lines.proofs.cursor.Cursor.ended.Statement.{statement}
 use Rattle.lines.proofs.cursor.Cursor.ended.Tie as tie
 
-abbrev text : tie.After-step → List ℕ
+abbrev text : tie.After-next-byte → List ℕ
 text c = now (c .before .before .before .args .text)
 
 returns : tie.Need-returns
-unfolding stepped lineAt
-returns c = sym (ended-short _ _ (read-as (stepped (text (c .before .before))) (c .before .before .step .ensures) (c .enum-told .given .1)))
+unfolding byteRead lineAt
+returns c = sym (ended-short _ _ (read-as (byteRead (text (c .before .before))) (c .before .before .next-byte .ensures) (c .enum-told .given .1)))
 
 byte-first : (c : tie.After-b) → rest (text (c .before .before)) (c .before .before .before .before .before .args .self) ≡ c .b .given .0 .0 ∷ rest (text (c .before .before)) (c .b .given .0 .1 .0)
-unfolding stepped
-byte-first c = read-as (stepped (text (c .before .before))) (c .before .before .step .ensures) (c .b .given .1)
+unfolding byteRead
+byte-first c = read-as (byteRead (text (c .before .before))) (c .before .before .next-byte .ensures) (c .b .given .1)
 
 -- the number's range, of the number itself and not of its bits
-number-fits : (c : tie.After-step) → c .before .within .result ≡ within (limitsOf (c .before .before .before .args .limits)) (c .before .before .before .args .z)
+number-fits : (c : tie.After-next-byte) → c .before .within .result ≡ within (c .before .before .before .args .limits) (c .before .before .before .args .z)
 number-fits c = rw (toZ-ofZ (c .before .before .before .fits .z)) at (c .before .within .ensures)
 
 returns-2 : tie.Need-returns-2
@@ -48,8 +47,8 @@ returns-4 c =
 within-requires : tie.Need-within-requires
 within-requires c κs = search needs
 
-step-requires : tie.Need-step-requires
-step-requires c κs = search needs
+next-byte-requires : tie.Need-next-byte-requires
+next-byte-requires c κs = search needs
 
 enum-known-b : tie.Need-enum-known-b
 enum-known-b c = search needs
@@ -62,7 +61,7 @@ ended-spec =
     tie.close
     (tie.spec
     within-requires
-    step-requires
+    next-byte-requires
     enum-known-b
     enum-told
     returns

@@ -14,8 +14,8 @@ use Rattle.lines.proofs.cursor.Cursor.line.Tie as tie
 returns : tie.Need-returns
 unfolding lineAt lineAfter foundAfter
 returns c =
-    let a = c .before .before .before .before .before in
-    rw (read-as (foundAfter (now (a .args .text))) (c .before .before .after .ensures) (c .enum-told .given .1), lineAfter)
+    let at-start = c .before .before .before .before .before in
+    rw (read-as (foundAfter (now (at-start .args .text))) (c .before .before .after .ensures) (c .enum-told .given .1), lineAfter)
 
 key-first : (c : tie.After-value) → after (now (c .before .before .before .before .before .args .key)) (rest (now (c .before .before .before .before .before .args .text)) (c .before .before .before .before .before .args .self)) ≡ some (rest (now (c .before .before .before .before .before .args .text)) (c .value .given .0 .0))
 unfolding foundAfter
@@ -25,16 +25,16 @@ returns-2 : tie.Need-returns-2
 unfolding lineAt lineAfter spelledAt ended
 returns-2 c =
     let value = c .before .before .before .before in
-    let a = value .before .before .before .before .before in
-    rw (key-first value, lineAfter, read-as (spelledAt (now (a .args .text))) (c .before .before .number .ensures) (c .enum-told2 .given .1))
+    let at-start = value .before .before .before .before .before in
+    rw (key-first value, lineAfter, read-as (spelledAt (now (at-start .args .text))) (c .before .before .number .ensures) (c .enum-told2 .given .1))
 
 returns-3 : tie.Need-returns-3
 unfolding lineAfter spelledAt
 returns-3 c =
     let z = c .before .before in
     let value = z .before .before .before .before in
-    let a = value .before .before .before .before .before in
-    rw (key-first value, lineAfter, read-as (spelledAt (now (a .args .text))) (z .before .before .number .ensures) (z .z .given .1))
+    let at-start = value .before .before .before .before .before in
+    rw (key-first value, lineAfter, read-as (spelledAt (now (at-start .args .text))) (z .before .before .number .ensures) (z .z .given .1))
     (rw (toZ-ofZ (record { sfits = c .before .known-told2 .given .0 .1 })) at (c .ended .ensures))
 
 after-requires : tie.Need-after-requires

@@ -11,8 +11,8 @@ use Rattle.lines.proofs.cursor.Cursor.natural.Tie as tie
 returns : tie.Need-returns
 unfolding digitRead spelledAt
 returns c =
-    let a = c .before .before .before .before in
-    sym (natural-wrong _ (read-as (digitRead (now (a .args .text))) (c .before .before .digit .ensures) (c .enum-told .given .1)))
+    let at-start = c .before .before .before .before in
+    sym (natural-wrong _ (read-as (digitRead (now (at-start .args .text))) (c .before .before .digit .ensures) (c .enum-told .given .1)))
 
 digit-first : (c : tie.After-d) → frontDigit (rest (now (c .before .before .before .before .args .text)) (c .before .before .before .before .args .self)) ≡ digit (c .d .given .0 .0) (rest (now (c .before .before .before .before .args .text)) (c .d .given .0 .1 .0))
 unfolding digitRead
@@ -22,11 +22,11 @@ returns-2 : tie.Need-returns-2
 unfolding spelledAt
 returns-2 c = sym (natural-zero _ (digit-first (c .before .before)) (c .if1 .taken))
 
-digits-requires : tie.Need-digits-requires
-digits-requires c κs = front-digit-small _ (digit-first (c .before .before))
-
 returns-3 : tie.Need-returns-3
 returns-3 c = c .digits .ensures ∙ sym (natural-digits _ (digit-first (c .before .before .before)) (c .before .if1 .left))
+
+digits-requires : tie.Need-digits-requires
+digits-requires c κs = front-digit-small _ (digit-first (c .before .before))
 
 digit-requires : tie.Need-digit-requires
 digit-requires c κs = search needs

@@ -21,8 +21,8 @@ use Rattle.lines.proofs.cursor.Cursor.negative.Tie as tie
 returns : tie.Need-returns
 unfolding spelledAt negated
 returns c =
-    let a = c .before .before .before .before in
-    rw (read-as (spelledAt (now (a .args .text))) (c .before .before .natural .ensures) (c .enum-told .given .1))
+    let at-start = c .before .before .before .before in
+    rw (read-as (spelledAt (now (at-start .args .text))) (c .before .before .natural .ensures) (c .enum-told .given .1))
 
 number-first : (c : tie.After-z) → natural (rest (now (c .before .before .before .before .args .text)) (c .before .before .before .before .args .self)) ≡ spelled (c .z .given .0 .0) (rest (now (c .before .before .before .before .args .text)) (c .z .given .0 .1 .0))
 unfolding spelledAt
