@@ -10,8 +10,10 @@ use lib.ListN.{getD, set, length-set, replicate, length-replicate, getD-replicat
 use lib.Seq.{getD-set-same, getD-set-other}
 use Rattle.model.specs.declared.Ball.{Ball}
 use Rattle.model.proofs.Ranges.{before-or-past}
-use Rattle.coefficients.specs.Layout.{quantities, orders, place, ballAt, Table, Written}
-use Rattle.coefficients.proofs.Places.{place-bound}
+use Rattle.model.specs.Sheet.{most-quantities}
+use Rattle.products.specs.Table.{orders, table-places, place, ballAt, Table}
+use Rattle.coefficients.specs.Orders.{Written}
+use Rattle.products.proofs.Places.{place-bound}
 
 -- ---- nothing at any place
 
@@ -21,13 +23,13 @@ getD-replicated n i a = ⊎-elim (getD-replicate n i a a) (λ (h : n ≤ i). Lis
 -- ---- one entry
 
 places-apart : (i k j order : ℕ) → k < orders → order < orders → ((order ≡ k) × (j ≡ i) → ⊥) → place j order ≡ place i k → ⊥
-unfolding orders place
+unfolding place
 places-apart i k j order h l apart e = apart (omega arith, omega arith)
 
 -- c and |c| + e written at the place of order k of quantity i
-pub entry-written : {values : List ℤ} {reaches : List ℕ} → Table values reaches → (i k : ℕ) → i < quantities → k < orders → (c : ℤ) (e : ℕ) {at r : ℕ} → at ≡ place i k → r ≡ natAbs c + e →
+pub entry-written : {values : List ℤ} {reaches : List ℕ} → Table values reaches → (i k : ℕ) → i < most-quantities → k < orders → (c : ℤ) (e : ℕ) {at r : ℕ} → at ≡ place i k → r ≡ natAbs c + e →
     Written k i (record { value = c; radius = e }) values reaches (set values at c) (set reaches at r)
-unfolding ballAt orders
+unfolding ballAt
 entry-written {values} {reaches} table i k quantity order c e {at} {r} here sum =
     record {
       table = record {
@@ -39,7 +41,7 @@ entry-written {values} {reaches} table i k quantity order c e {at} {r} here sum 
       others = λ order′ j h l apart. unchanged (place j order′) (λ p. places-apart i k j order′ order h apart (p ∙ here));
     }
   where
-    below : place i k < 232
+    below : place i k < table-places
     below = place-bound i k quantity (omega arith)
 
     value-here : getD (set values at c) at (pos 0) ≡ c

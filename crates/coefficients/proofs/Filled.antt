@@ -9,7 +9,7 @@ use native.Mathlib.Omega.{arith}
 use lib.IntN.{ℤ, _*ℤ_}
 use lib.ListN.{length}
 use Rattle.rounding.specs.Rounding.{near, up}
-use Rattle.model.specs.Sheet.{scale}
+use Rattle.model.specs.Sheet.{scale, most-quantities}
 use Rattle.model.specs.Step.{Coefficients, coefficient, factor, productRadius, products, coefficientsTo}
 use Rattle.model.specs.declared.Ball.{Ball}
 use Rattle.model.specs.declared.Term.{Term}
@@ -17,8 +17,9 @@ use Rattle.model.proofs.Ranges.{before-or-past, sum-equal, sumℤ-equal, length
 use Rattle.model.proofs.Tables.{coefficients-grow}
 use Rattle.model.specs.Bounds.{InBounds}
 use Rattle.model.proofs.Invariant.{greatest-le-most, coefficient-bounded}
-use Rattle.coefficients.specs.Layout.{quantities, ballAt, tableIn, startIn, Small, Filled}
-use Rattle.coefficients.proofs.Places.{ball-equal, coefficient-in, coefficient-past}
+use Rattle.products.specs.Table.{ballAt, tableIn, Small}
+use Rattle.coefficients.specs.Orders.{startIn, Filled}
+use Rattle.products.proofs.Places.{ball-equal, coefficient-in, coefficient-past}
 
 pub length-start : (n : ℕ) (values : List ℤ) (reaches : List ℕ) → length (startIn n values reaches) ≡ n
 unfolding startIn
@@ -38,17 +39,17 @@ module _ {terms : List Term} {H : ℤ} {n k : ℕ} {values : List ℤ} {reaches 
   pub filled-small : InBounds terms H (startIn n values reaches) → Small k values reaches
   filled-small bounds =
       record {
-        table = filled .table;
+        table = filled .usable .table;
         small = λ order i h l. rw (filled .entries order i h l) (le-trans (coefficient-bounded bounds k order h i) (greatest-le-most bounds));
       }
 
-  module _ (room : n ≤ quantities) where
+  module _ (room : n ≤ most-quantities) where
     pub coefficient-filled : (order : ℕ) → order ≤ k → (i : ℕ) → coefficient (tableIn k values reaches) order i ≡ coefficient (coefficientsTo terms H (startIn n values reaches) k) order i
     coefficient-filled order h i =
         ⊎-elim
-        (λ (l : i < quantities). coefficient-in k values reaches order h i l ∙ filled .entries order i h l)
-        (λ (l : quantities ≤ i). coefficient-past k values reaches order h i l ∙ sym (coefficients-grow terms H (startIn n values reaches) .past k order i h (rw (length-start n values reaches) (le-trans room l))))
-        (before-or-past i quantities)
+        (λ (l : i < most-quantities). coefficient-in k values reaches order h i l ∙ filled .entries order i h l)
+        (λ (l : most-quantities ≤ i). coefficient-past k values reaches order h i l ∙ sym (coefficients-grow terms H (startIn n values reaches) .past k order i h (rw (length-start n values reaches) (le-trans room l))))
+        (before-or-past i most-quantities)
 
     factor-filled : (order : ℕ) → order ≤ k → (number : ℕ) → factor (tableIn k values reaches) order number ≡ factor (coefficientsTo terms H (startIn n values reaches) k) order number
     unfolding factor

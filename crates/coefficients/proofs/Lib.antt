@@ -1,7 +1,4 @@
-mod Convolution
 mod Entries
 pub mod Filled
 pub mod Filling
-pub mod Places
 mod Shares
-pub mod Terms

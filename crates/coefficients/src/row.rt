@@ -1,14 +1,16 @@
 // Document 01, 'New row': the sums of the orders.
 ghost use mathlib.Core.Path.{_≡_};
-ghost use Prim.Native.Nat.{_+_, _^_, _≤_, _<_};
+ghost use Prim.Native.Nat.{_^_, _≤_, _<_};
 ghost use lib.Seq.{sets};
 ghost use Rattle.model.specs.Range.{tabulate};
 ghost use Rattle.model.specs.Step as rule;
-ghost use Rattle.coefficients.specs.Layout.{quantities, tableIn, Small};
-use crate::ORDERS;
-use crate::PLACES;
+ghost use Rattle.model.specs.Sheet.{«most-quantities»};
+ghost use Rattle.model.specs.Step.{«most-degree»};
+ghost use Rattle.products.specs.Table.{tableIn, Small};
 use model::Ball;
-use model::QUANTITIES;
+use model::MOST_QUANTITIES;
+use products::ORDERS;
+use products::PLACES;
 use rounding::magnitude;
 
 // The sums of c_0..c_degree and of e_0..e_degree of quantity i, and the tail.
@@ -19,7 +21,7 @@ fn new_ball(
     values: &[i64; PLACES],
     reaches: &[u64; PLACES],
 ) -> Ball
-    requires { ⌜ (degree ≤ 28) × (i < quantities) ⌝ }
+    requires { ⌜ (degree ≤ most-degree) × (i < most-quantities) ⌝ }
     requires { ⌜ tail ≤ 2 ^ 32 ⌝ }
     requires { ⌜ Small degree (now values) (now reaches) ⌝ }
     ensures { λ r. ⌜ r ≡ rule.newBall (tableIn degree (now (values .entry)) (now (reaches .entry))) degree tail i ⌝ }
@@ -44,14 +46,14 @@ pub fn new_row(
     tail: u64,
     values: &[i64; PLACES],
     reaches: &[u64; PLACES],
-    row: &mut [i64; QUANTITIES],
-    radii: &mut [u64; QUANTITIES],
+    row: &mut [i64; MOST_QUANTITIES],
+    radii: &mut [u64; MOST_QUANTITIES],
 )
-    requires { ⌜ (n ≤ quantities) × (degree ≤ 28) ⌝ }
+    requires { ⌜ (n ≤ most-quantities) × (degree ≤ most-degree) ⌝ }
     requires { ⌜ tail ≤ 2 ^ 32 ⌝ }
     requires { ⌜ Small degree (now values) (now reaches) ⌝ }
-    ensures { λ _. ⌜ now (row .exit) ≡ sets (now (row .entry)) 0 (tabulate n (λ i. rule.newBall (tableIn degree (now (values .entry)) (now (reaches .entry))) degree tail i .value)) ⌝ }
-    ensures { λ _. ⌜ now (radii .exit) ≡ sets (now (radii .entry)) 0 (tabulate n (λ i. rule.newBall (tableIn degree (now (values .entry)) (now (reaches .entry))) degree tail i .radius)) ⌝ }
+    ensures values { λ _. ⌜ now (row .exit) ≡ sets (now (row .entry)) 0 (tabulate n (λ i. rule.newBall (tableIn degree (now (values .entry)) (now (reaches .entry))) degree tail i .value)) ⌝ }
+    ensures radii { λ _. ⌜ now (radii .exit) ≡ sets (now (radii .entry)) 0 (tabulate n (λ i. rule.newBall (tableIn degree (now (values .entry)) (now (reaches .entry))) degree tail i .radius)) ⌝ }
 {
     let mut i = 0;
     while i < n {

@@ -9,16 +9,16 @@ use lib.IntN.{ℤ, pos}
 use lib.ListN.{length, getD, drop, replicate, length-map, length-replicate, List·getD-append, List·getD-map}
 use lib.Seq.{sets, sets-eq}
 use Rattle.model.specs.Range.{tabulate}
-use Rattle.model.specs.Sheet.{padded}
+use Rattle.model.specs.Sheet.{most-quantities, padded}
 use Rattle.model.specs.Step.{no-ball, stepRow, newRow}
 use Rattle.model.specs.declared.Ball.{Ball}
 use Rattle.model.specs.declared.Term.{Term}
 use Rattle.model.proofs.Ranges.{length-tabulate, map-tabulate, tabulate-is}
-use Rattle.coefficients.specs.Layout.{quantities, ballIn, ballsIn}
-use Rattle.coefficients.proofs.Places.{ball-equal}
-use Rattle.taylor.specs.Step.{laidOut}
+use Rattle.model.specs.Rows.{ballIn, ballsIn, laidOut}
+use Rattle.products.proofs.Places.{ball-equal}
 
 module _ {A : Type 0} (last : A) where
+  -- what is left of an array of one number behind its first k places
   drop-replicate : (k size : ℕ) → drop k (replicate size last) ≡ replicate (size - k) last
   drop-replicate zero size = simp unary-clauses refl
   drop-replicate (suc k) zero = let none : 0 - suc k ≡ 0 = omega arith in rw none
@@ -31,10 +31,10 @@ module _ {A : Type 0} (last : A) where
       sets-eq xs (replicate size last) 0 (rw length-replicate (omega arith)) ∙ rw (zero-add (length xs), drop-replicate (length xs) size)
 
 -- the balls f 0, .., f (n - 1) stored in arrays of zeros
-pub stored-laid-out : (n : ℕ) (f : ℕ → Ball) → n ≤ quantities → {values : List ℤ} {radii : List ℕ} → values ≡ sets (replicate 8 (pos 0)) 0 (tabulate n (λ i. f i .value)) → radii ≡ sets (replicate 8 0) 0 (tabulate n (λ i. f i .radius)) → record { values = values; radii = radii } ≡ laidOut (tabulate n f)
-unfolding laidOut quantities
+pub stored-laid-out : (n : ℕ) (f : ℕ → Ball) → n ≤ most-quantities → {values : List ℤ} {radii : List ℕ} → values ≡ sets (replicate most-quantities (pos 0)) 0 (tabulate n (λ i. f i .value)) → radii ≡ sets (replicate most-quantities 0) 0 (tabulate n (λ i. f i .radius)) → record { values = values; radii = radii } ≡ laidOut (tabulate n f)
+unfolding laidOut
 stored-laid-out n f room v r =
-    rw (v, r, stored-padded (pos 0) 8 (tabulate n (λ i. f i .value)) (rw length-tabulate room), stored-padded 0 8 (tabulate n (λ i. f i .radius)) (rw length-tabulate room), map-tabulate n f (λ ball. ball .value), map-tabulate n f (λ ball. ball .radius))
+    rw (v, r, stored-padded (pos 0) most-quantities (tabulate n (λ i. f i .value)) (rw length-tabulate room), stored-padded 0 most-quantities (tabulate n (λ i. f i .radius)) (rw length-tabulate room), map-tabulate n f (λ ball. ball .value), map-tabulate n f (λ ball. ball .radius))
 
 -- the first places of the arrays are the balls
 pub balls-laid-out : (n : ℕ) (balls : List Ball) → length balls ≡ n → ballsIn n (laidOut balls .values) (laidOut balls .radii) ≡ balls

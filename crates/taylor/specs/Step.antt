@@ -1,30 +1,41 @@
--- What the code answers to one step, by the definition of the step.
-use Prim.Native.Nat.{ℕ}
-use mathlib.Core.List.{List, map}
+-- What the code asks of a step and answers to it, by the definition of the step.
+use Prim.Native.Nat.{ℕ, _^_, _≤_}
+use mathlib.Core.List.{List}
 use mathlib.Core.Path.{_≡_}
-use lib.IntN.{pos}
-use Rattle.model.specs.Sheet.{number, padded}
-use Rattle.model.specs.Step as rule
+use lib.IntN.{ℤ}
+use Rattle.model.specs.Sheet.{number, most-quantities}
+use Rattle.model.specs.Step.{most-degree}
+use Rattle.model.specs.Rows.{laidOut}
 use Rattle.model.specs.Passage as passage
+use Rattle.model.specs.Bounds.{TermsInBounds, InBounds}
 use Rattle.model.specs.declared.Ball.{Ball}
-use Rattle.coefficients.specs.Layout.{quantities}
-use Rattle.taylor.specs.declared.step.Balls.{Balls}
-use Rattle.taylor.specs.declared.step.Row.{Row}
+use Rattle.model.specs.declared.Balls.{Balls}
+use Rattle.model.specs.declared.Head.{Head}
+use Rattle.model.specs.declared.Term.{Term}
+use Rattle.coefficients.specs.Orders.{Usable}
+use Rattle.taylor.specs.declared.degree.Truncation.{Truncation}
 use Rattle.taylor.specs.declared.step.Advance.{Advance}
 use Rattle.taylor.specs.declared.step.Advance.the-variants.{Moves, Stops}
 use Rattle.taylor.specs.declared.step.Stepped.{Stepped}
 
--- a row's balls in two arrays of 8 places, with 0 past its quantities
-unfoldable pub laidOut : List Ball → Balls
-laidOut balls =
-    record {
-      values = padded quantities (pos 0) (map (λ ball. ball .value) balls);
-      radii = padded quantities 0 (map (λ ball. ball .radius) balls);
-    }
+-- ---- what a step asks
 
--- a row, whole: its degree, and its balls laid out
-unfoldable pub rowLaidOut : rule.Row → Row
-rowLaidOut row = record { degree = row .degree; balls = laidOut (row .balls) }
+-- What a sheet that passes question 3 gives: of its terms and its step, and of its tail.
+pub record CanStep (head : Head) (terms : List Term) : Type 0 where
+  pub bounds : TermsInBounds terms (head .step) (head .n)
+  pub room : head .n ≤ most-quantities
+  pub tail-low : 2 ≤ head .tail
+  pub tail-high : head .tail ≤ 2 ^ 32
+
+-- What questions 4 and 5 give besides, with the degree and the tail, and a table of coefficients to work in.
+pub record CanRow (head : Head) (cut : Truncation) (terms : List Term) (balls : List Ball) (values : List ℤ) (reaches : List ℕ) : Type 0 where
+  pub bounds : InBounds terms (head .step) balls
+  pub room : head .n ≤ most-quantities
+  pub degree : cut .degree ≤ most-degree
+  pub tail : cut .tail ≤ 2 ^ 32
+  pub usable : Usable (head .n) values reaches
+
+-- ---- what it comes to
 
 -- a step's answer, whole: the row's degree and its balls laid out; or the refusal, and the balls that the step started from
 unfoldable pub answered : Balls → passage.Advance → Stepped

@@ -13,15 +13,15 @@ pub struct Truncation {
     pub tail: u64,
 }
 
-// The least k from 0 up whose tail is at most `limit`, and that tail. `majorant` is p_j, from p_0 = G.
-pub fn truncate(greatest: u64, ratio: u64, limit: u64) -> Truncation
-    requires { ⌜ greatest ≤ most ⌝ }
+// The least k from 0 up whose tail is at most `limit`, and that tail. `reach` is G, and `majorant` p_(k+1).
+pub fn truncate(reach: u64, ratio: u64, limit: u64) -> Truncation
+    requires { ⌜ reach ≤ most ⌝ }
     requires { ⌜ ratio ≤ most-ratio ⌝ }
     requires { ⌜ 2 ≤ limit ⌝ }
-    ensures { λ r. ⌜ r .degree ≡ degree greatest ratio limit ⌝ }
-    ensures { λ r. ⌜ r .tail ≡ tailAt greatest ratio (degree greatest ratio limit) ⌝ }
+    ensures degree { λ r. ⌜ r .degree ≡ degree reach ratio limit ⌝ }
+    ensures tail { λ r. ⌜ r .tail ≡ tailAt reach ratio (degree reach ratio limit) ⌝ }
 {
-    let mut majorant = up(greatest * ratio, SCALE);
+    let mut majorant = up(reach * ratio, SCALE);
     let mut k: usize = 0;
     loop {
         let tail = up(majorant * SCALE, SCALE - ratio);

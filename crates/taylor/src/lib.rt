@@ -3,8 +3,8 @@ mod degree;
 mod ratio;
 mod step;
 
+pub use ratio::SUMS;
+pub use ratio::sums_of;
 pub use step::Advance;
-pub use step::Balls;
-pub use step::Row;
 pub use step::Stepped;
 pub use step::take_step;

@@ -1,42 +1,34 @@
-// One step with its questions: document 01, questions 4 to 6 and 'One rounded step'.
+// One step with its questions: document 01, questions 4 to 6 and 'One rounded step'. Two arrays of one record are lent to a
+// call at one lifetime, 'a.
 ghost use mathlib.Core.Path.{_≡_};
-ghost use Prim.Native.Nat.{_^_, _≤_, _<_};
+ghost use Prim.Native.Nat.{_≤_};
 ghost use lib.Dec.{leb};
 ghost use lib.ListN.{getD};
 ghost use Rattle.model.specs.Range.{every};
-ghost use Rattle.model.specs.Sheet.{most};
+ghost use Rattle.model.specs.Sheet.{most, «most-quantities», listed};
 ghost use Rattle.model.specs.Step as rule;
+ghost use Rattle.model.specs.Rows.{ballIn, ballsIn, ballsOf, laidOut};
 ghost use Rattle.model.specs.Passage as passage;
-ghost use Rattle.model.specs.Bounds.{TermsInBounds, InBounds};
-ghost use Rattle.coefficients.specs.Layout.{quantities, ballIn, ballsIn, termsIn, Numbered};
-ghost use Rattle.taylor.specs.Step.{rowLaidOut, answered};
+ghost use Rattle.coefficients.specs.Orders.{Usable};
+ghost use Rattle.taylor.specs.Ratio.{SumsOf};
+ghost use Rattle.taylor.specs.Step.{CanRow, CanStep, answered};
+use crate::degree::Truncation;
 use crate::degree::truncate;
-use crate::ratio::greatest;
+use crate::ratio::SUMS;
+use crate::ratio::largest_reach;
 use crate::ratio::ratio;
-use coefficients::PLACES;
 use coefficients::fill_orders;
 use coefficients::new_row;
 use coefficients::start_orders;
+use model::Balls;
+use model::Head;
 use model::MOST;
-use model::QUANTITIES;
+use model::MOST_QUANTITIES;
+use model::MOST_RATIO;
 use model::Refusal;
-use model::TERMS;
+use model::Terms;
+use products::PLACES;
 use rounding::magnitude;
-
-// One half, in units.
-const MOST_RATIO: u64 = 8388608;
-
-// The values and radii of up to 8 quantities.
-pub struct Balls {
-    pub values: [i64; QUANTITIES],
-    pub radii: [u64; QUANTITIES],
-}
-
-// A row: its degree, and its values and radii.
-pub struct Row {
-    pub degree: usize,
-    pub balls: Balls,
-}
 
 // What a step comes to: a row's degree, or the refusal of the first question that is answered no.
 pub enum Advance {
@@ -51,8 +43,12 @@ pub struct Stepped {
 }
 
 // Question 4: is |value| + radius at most 32 wholes for every quantity?
-fn small(n: usize, values: &[i64; QUANTITIES], radii: &[u64; QUANTITIES]) -> bool
-    requires { ⌜ n ≤ quantities ⌝ }
+fn small<'a>(
+    n: usize,
+    values: &'a [i64; MOST_QUANTITIES],
+    radii: &'a [u64; MOST_QUANTITIES],
+) -> bool
+    requires { ⌜ n ≤ most-quantities ⌝ }
     ensures { λ r. ⌜ r ≡ every n (λ i. leb (rule.reach (ballIn (now (values .entry)) (now (radii .entry)) i)) most) ⌝ }
 {
     let mut i = 0;
@@ -71,8 +67,8 @@ fn small(n: usize, values: &[i64; QUANTITIES], radii: &[u64; QUANTITIES]) -> boo
 }
 
 // Question 6: is every radius at most the tolerance?
-fn tolerable(n: usize, tol: u64, radii: &[u64; QUANTITIES]) -> bool
-    requires { ⌜ n ≤ quantities ⌝ }
+fn tolerable(n: usize, tol: u64, radii: &[u64; MOST_QUANTITIES]) -> bool
+    requires { ⌜ n ≤ most-quantities ⌝ }
     ensures { λ r. ⌜ r ≡ every n (λ i. leb (getD (now (radii .entry)) i 0) tol) ⌝ }
 {
     let mut i = 0;
@@ -85,123 +81,90 @@ fn tolerable(n: usize, tol: u64, radii: &[u64; QUANTITIES]) -> bool
     true
 }
 
-// The row of a step whose questions 4 and 5 are answered yes.
-fn row_of(
-    n: usize,
-    step: i64,
-    limit: u64,
-    greatest: u64,
-    ratio: u64,
-    terms: usize,
-    to: &[usize; TERMS],
-    coef: &[i64; TERMS],
-    first: &[usize; TERMS],
-    second: &[usize; TERMS],
-    values: &[i64; QUANTITIES],
-    radii: &[u64; QUANTITIES],
-) -> Row
-    requires { ⌜ InBounds (termsIn terms (now to) (now coef) (now first) (now second)) step (ballsIn n (now values) (now radii)) ⌝ }
-    requires { ⌜ Numbered terms (now first) (now second) ⌝ }
-    requires { ⌜ greatest ≡ rule.greatest (ballsIn n (now values) (now radii)) ⌝ }
-    requires { ⌜ ratio ≡ rule.ratio (termsIn terms (now to) (now coef) (now first) (now second)) step n greatest ⌝ }
-    requires { ⌜ (n ≤ quantities) × (terms ≤ 32) × (2 ≤ limit) × (limit ≤ 2 ^ 32) ⌝ }
-    ensures { λ r. ⌜ r ≡ rowLaidOut (rule.stepRow (termsIn terms (now (to .entry)) (now (coef .entry)) (now (first .entry)) (now (second .entry))) step limit (ballsIn n (now (values .entry)) (now (radii .entry)))) ⌝ }
+// The values and radii of the new row of a step whose questions 4 and 5 are answered yes, with 0 past n.
+fn row_of<'a>(
+    head: Head,
+    cut: Truncation,
+    terms: Terms,
+    start: &'a [i64; MOST_QUANTITIES],
+    radii: &'a [u64; MOST_QUANTITIES],
+    values: &mut [i64; PLACES],
+    reaches: &mut [u64; PLACES],
+) -> Balls
+    requires { ⌜ CanRow head cut (listed terms) (ballsIn (head .n) (now start) (now radii)) (now values) (now reaches) ⌝ }
+    ensures row { λ r. ⌜ r ≡ laidOut (rule.newRow (listed terms) (head .step) (ballsIn (head .n) (now (start .entry)) (now (radii .entry))) (cut .degree) (cut .tail) .balls) ⌝ }
+    ensures usable { λ _. ⌜ Usable (head .n) (now (values .exit)) (now (reaches .exit)) ⌝ }
 {
-    let cut = truncate(greatest, ratio, limit);
+    let n = head.n;
     let degree = cut.degree;
-    let mut table = [0i64; PLACES];
-    let mut reaches = [0u64; PLACES];
-    start_orders(n, values, radii, &mut table, &mut reaches);
-    fill_orders(
-        n,
-        step,
-        degree,
-        terms,
-        to,
-        coef,
-        first,
-        second,
-        &mut table,
-        &mut reaches,
-    );
-    let mut row = [0i64; QUANTITIES];
-    let mut row_radii = [0u64; QUANTITIES];
+    start_orders(n, start, radii, values, reaches);
+    fill_orders(n, head.step, degree, terms, values, reaches);
+    let mut row = [0i64; MOST_QUANTITIES];
+    let mut row_radii = [0u64; MOST_QUANTITIES];
     new_row(
         n,
         degree,
         cut.tail,
-        &table,
-        &reaches,
+        values,
+        reaches,
         &mut row,
         &mut row_radii,
     );
-    Row {
-        degree,
-        balls: Balls {
-            values: row,
-            radii: row_radii,
-        },
+    Balls {
+        values: row,
+        radii: row_radii,
     }
 }
 
-// One step of `step` from the balls `start`, with its questions.
+// One step of a passage from the balls `start`, with its questions. `sums` are Z0, Z1 and Z2 of its terms, and the two
+// arrays a table of coefficients to work in.
 pub fn take_step(
-    n: usize,
-    step: i64,
-    limit: u64,
-    tol: u64,
-    terms: usize,
-    to: &[usize; TERMS],
-    coef: &[i64; TERMS],
-    first: &[usize; TERMS],
-    second: &[usize; TERMS],
+    head: Head,
+    terms: Terms,
+    sums: &[u64; SUMS],
     start: Balls,
+    values: &mut [i64; PLACES],
+    reaches: &mut [u64; PLACES],
 ) -> Stepped
-    requires { ⌜ TermsInBounds (termsIn terms (now to) (now coef) (now first) (now second)) step n ⌝ }
-    requires { ⌜ (n ≤ quantities) × (terms ≤ 32) ⌝ }
-    requires { ⌜ (2 ≤ limit) × (limit ≤ 2 ^ 32) ⌝ }
-    ensures { λ r. ⌜ r ≡ answered start (passage.advance (termsIn terms (now (to .entry)) (now (coef .entry)) (now (first .entry)) (now (second .entry))) step limit tol (ballsIn n (start .values) (start .radii))) ⌝ }
+    requires { ⌜ CanStep head (listed terms) ⌝ }
+    requires { ⌜ SumsOf (listed terms) (head .n) (now sums) ⌝ }
+    requires { ⌜ Usable (head .n) (now values) (now reaches) ⌝ }
+    ensures stepped { λ r. ⌜ r ≡ answered start (passage.advance (listed terms) (head .step) (head .tail) (head .tol) (ballsOf (head .n) start)) ⌝ }
+    ensures usable { λ _. ⌜ Usable (head .n) (now (values .exit)) (now (reaches .exit)) ⌝ }
 {
-    let values = start.values;
-    let radii = start.radii;
-    if !small(n, &values, &radii) {
+    let n = head.n;
+    if !small(n, &start.values, &start.radii) {
         return Stepped {
             advance: Advance::Stops(Refusal::TooLarge),
             balls: start,
         };
     }
-    let scale = greatest(n, &values, &radii);
-    let q = ratio(n, step, scale, terms, to, coef, first, second);
+    let reach = largest_reach(n, &start.values, &start.radii);
+    let q = ratio(n, head.step, reach, sums);
     if MOST_RATIO < q {
         return Stepped {
-            advance: Advance::Stops(Refusal::TooFast),
+            advance: Advance::Stops(Refusal::StepTooLong),
             balls: start,
         };
     }
-    let row = row_of(
-        n,
-        step,
-        limit,
-        scale,
-        q,
+    let cut = truncate(reach, q, head.tail);
+    let balls = row_of(
+        head,
+        cut,
         terms,
-        to,
-        coef,
-        first,
-        second,
-        &values,
-        &radii,
+        &start.values,
+        &start.radii,
+        values,
+        reaches,
     );
-    let balls = row.balls;
-    let row_radii = balls.radii;
-    if !tolerable(n, tol, &row_radii) {
+    if !tolerable(n, head.tol, &balls.radii) {
         return Stepped {
             advance: Advance::Stops(Refusal::Intolerable),
             balls: start,
         };
     }
     Stepped {
-        advance: Advance::Moves(row.degree),
+        advance: Advance::Moves(cut.degree),
         balls,
     }
 }

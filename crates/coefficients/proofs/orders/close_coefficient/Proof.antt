@@ -14,16 +14,19 @@ use mir.Facts.{toZ-ofZ}
 use Rattle.rounding.specs.Rounding.{near, up}
 use Rattle.rounding.proofs.Machine.{abs-of-fits, magnitude-is}
 use Rattle.rounding.proofs.Roundings.{up-is-least}
-use Rattle.coefficients.specs.Layout.{quantities, orders, place, closed, Table, Written}
+use Rattle.model.specs.Sheet.{most-quantities}
+use Rattle.model.specs.Step.{most-degree}
+use Rattle.products.specs.Table.{orders, place, Table}
+use Rattle.coefficients.specs.Orders.{closed, Written}
 use Rattle.coefficients.proofs.Entries.{entry-written}
 use borrow.Author.Needs.{needs}
 use Rattle.coefficients.proofs.orders.close_coefficient.Statement.{statement}
 use Rattle.coefficients.proofs.orders.close_coefficient.Tie as tie
 
-written : {values : List ℤ} {reaches : List ℕ} {sum c : ℤ} {i k : ℕ} (radius : ℕ) {m u : ℕ} → Table values reaches → i < quantities → k < 28 → SFits w64 sum → SFits w64 c →
+written : {values : List ℤ} {reaches : List ℕ} {sum c : ℤ} {i k : ℕ} (radius : ℕ) {m u : ℕ} → Table values reaches → i < most-quantities → k < most-degree → SFits w64 sum → SFits w64 c →
     c ≡ near (toZ w64 (ofZ w64 sum)) (k + 1) → m ≡ natAbs (toZ w64 (ofZ w64 c)) → u ≡ up radius (k + 1) + 1 →
-    Written (suc k) i (closed k (record { value = sum; radius = radius })) values reaches (set values (i * 29 + k + 1) (toZ w64 (ofZ w64 c))) (set reaches (i * 29 + k + 1) (m + u))
-unfolding orders place closed
+    Written (suc k) i (closed k (record { value = sum; radius = radius })) values reaches (set values (i * orders + k + 1) (toZ w64 (ofZ w64 c))) (set reaches (i * orders + k + 1) (m + u))
+unfolding place closed
 written {sum} {c} {i} {k} radius {m} {u} table quantity order f g value magnitude upper =
     rw (toZ-ofZ g, rounded) (entry-written table i (suc k) quantity (omega arith) c (up radius (suc k) + 1) (omega arith) reached)
   where
@@ -35,8 +38,8 @@ written {sum} {c} {i} {k} radius {m} {u} table quantity order f g value magnitud
 
 returns : tie.Need-returns
 returns c =
-    let a = c .before .before .before in
-    written (a .args .radius) (a .pre .1 .1) (a .pre .0 .0) (a .pre .0 .1) (a .fits .sum) (record { sfits = c .before .before .near .ok }) (c .before .before .near .ensures) (c .before .magnitude .ensures) (c .up-and-one .ensures)
+    let at-start = c .before .before .before in
+    written (at-start .args .radius) (at-start .pre .1 .1) (at-start .pre .0 .0) (at-start .pre .0 .1) (at-start .fits .sum) (record { sfits = c .before .before .near .ok }) (c .before .before .near .ensures) (c .before .magnitude .ensures) (c .up-and-one .ensures)
 
 reach-fits : (c : ℤ) (radius k : ℕ) {m u : ℕ} → SFits w64 c → m ≡ natAbs (toZ w64 (ofZ w64 c)) → u ≡ up radius (k + 1) + 1 → radius < 2 ^ 62 → m + u < 2 ^ 64
 reach-fits c radius k f magnitude upper small =
@@ -52,23 +55,18 @@ near-requires : tie.Need-near-requires
 near-requires c κs = search needs
 
 mul-at : tie.Need-mul-at
-unfolding quantities
 mul-at c = omega arith
 
 add-at : tie.Need-add-at
-unfolding quantities
 add-at c = omega arith
 
 add-at-2 : tie.Need-add-at-2
-unfolding quantities
 add-at-2 c = omega arith
 
 mul-c : tie.Need-mul-c
-unfolding quantities
 mul-c c = omega arith
 
 element-set-from-c : tie.Need-element-set-from-c
-unfolding quantities
 element-set-from-c c = omega arith
 
 magnitude-requires : tie.Need-magnitude-requires
@@ -79,18 +77,16 @@ up-and-one-requires c κs = search needs
 
 written-fits : (c : tie.After-up-and-one) → c .before .magnitude .result + c .up-and-one .result < 2 ^ 64
 written-fits c =
-    let a = c .before .before .before in
-    reach-fits (c .before .before .near .result) (a .args .radius) (a .args .k) (record { sfits = c .before .before .near .ok }) (c .before .magnitude .ensures) (c .up-and-one .ensures) (omega (arith, a .pre .1 .0))
+    let at-start = c .before .before .before in
+    reach-fits (c .before .before .near .result) (at-start .args .radius) (at-start .args .k) (record { sfits = c .before .before .near .ok }) (c .before .magnitude .ensures) (c .up-and-one .ensures) (omega (arith, at-start .pre .1 .0))
 
 add-reaches : tie.Need-add-reaches
 add-reaches c = omega (arith, written-fits c)
 
 mul-reaches : tie.Need-mul-reaches
-unfolding quantities
 mul-reaches c = omega arith
 
 element-write-reaches : tie.Need-element-write-reaches
-unfolding quantities
 element-write-reaches c = omega arith
 
 pub close-coefficient-spec : {M : Type 1} → statement M

@@ -13,7 +13,7 @@ use mir.Facts.{toZ-ofZ}
 use Rattle.model.specs.Range.{tabulate}
 use Rattle.model.specs.Step.{newBall}
 use Rattle.model.proofs.Stores.{stored-one-more}
-use Rattle.coefficients.specs.Layout.{quantities, tableIn}
+use Rattle.products.specs.Table.{tableIn}
 use Rattle.coefficients.proofs.row.new_row.Statement.{statement}
 use Rattle.coefficients.proofs.row.new_row.Tie as tie
 
@@ -35,9 +35,9 @@ loop-holds c = (omega arith, refl, refl)
 loop-again : tie.Need-loop-again Inv-loop μ-loop
 loop-again c =
     let turn = c .before .before .before in
-    let a = turn .before .args in
+    let args = turn .before .args in
     let fits : SFits w64 (c .before .new-ball .result .value) = record { sfits = c .struct-told .given .0 .1 } in
-    (omega arith, rw (toZ-ofZ fits, c .before .new-ball .ensures) (one-more (a .row .now) (turn .loop .i) _ (turn .loop .inv .1)), rw (c .before .new-ball .ensures) (one-more (a .radii .now) (turn .loop .i) _ (turn .loop .inv .2)))
+    (omega arith, rw (toZ-ofZ fits, c .before .new-ball .ensures) (one-more (args .row .now) (turn .loop .i) _ (turn .loop .inv .1)), rw (c .before .new-ball .ensures) (one-more (args .radii .now) (turn .loop .i) _ (turn .loop .inv .2)))
 
 returns : tie.Need-returns Inv-loop μ-loop
 returns c = rw all (c .before .loop .inv .1, c .before .loop .inv .2)
@@ -47,23 +47,19 @@ returns c = rw all (c .before .loop .inv .1, c .before .loop .inv .2)
 
 new-ball-requires : tie.Need-new-ball-requires Inv-loop μ-loop
 new-ball-requires c κs =
-    let a = c .before .before in
-    ((a .pre .0 .1, omega arith), (a .pre .1 .0, a .pre .1 .1))
+    let at-start = c .before .before in
+    ((at-start .pre .0 .1, omega arith), (at-start .pre .1 .0, at-start .pre .1 .1))
 
 mul-value : tie.Need-mul-value Inv-loop μ-loop
-unfolding quantities
 mul-value c = omega arith
 
 element-set-from-value : tie.Need-element-set-from-value Inv-loop μ-loop
-unfolding quantities
 element-set-from-value c = omega arith
 
 mul-radii : tie.Need-mul-radii Inv-loop μ-loop
-unfolding quantities
 mul-radii c = omega arith
 
 element-write-radii : tie.Need-element-write-radii Inv-loop μ-loop
-unfolding quantities
 element-write-radii c = omega arith
 
 add-i : tie.Need-add-i Inv-loop μ-loop

@@ -1,24 +1,20 @@
 -- `taylor::ratio::coefs` meets its contract. The loop forms the sum over the terms passed.
 -- Assumes nothing.
-use Prim.Native.Nat.{ℕ, _+_, _-_, _^_, _≤_, _<_}
+use Prim.Native.Nat.{ℕ, _+_, _-_, _≤_, _<_}
 use mathlib.Core.Path.{_≡_, refl, ap, _∙_}
 use mathlib.Core.List.{List}
 use native.Mathlib.Numerals.{add-one}
 use native.Mathlib.Omega.{arith}
-use lib.IntN.{ℤ, pos}
 use lib.ListN.{length, getD}
-use mir.Syntax.{w64}
-use mir.Val.{SFits, toZ, ofZ}
-use mir.Facts.{toZ-ofZ}
 use Rattle.model.specs.Range as range
-use Rattle.model.specs.Sheet.{no-term}
+use Rattle.model.specs.Sheet.{no-term, listed}
 use Rattle.model.specs.Step as rule
 use Rattle.model.specs.declared.Term.{Term}
+use Rattle.model.specs.declared.Terms.{Terms}
 use Rattle.model.proofs.Ranges.{sum-suc}
 use Rattle.model.proofs.RatioNumbers.{coefs-fit}
 use Rattle.model.specs.Bounds.{total, most-total}
-use Rattle.coefficients.specs.Layout.{termAt, termsIn}
-use Rattle.coefficients.proofs.Terms.{length-terms, getD-terms}
+use Rattle.model.proofs.Listed.{length-listed, getD-listed}
 use borrow.Author.Needs.{needs}
 use Rattle.taylor.proofs.ratio.coefs.Statement.{statement}
 use Rattle.taylor.proofs.ratio.coefs.Tie as tie
@@ -28,77 +24,66 @@ partial : ℕ → ℕ → List Term → ℕ → ℕ
 partial target count terms j =
     range.sum j (λ j. rule.brings target (getD terms j no-term) (rule.coefOf count (getD terms j no-term)))
 
-partial-fits : (target count : ℕ) (terms : List Term) → total terms ≤ most-total → (j : ℕ) → j ≤ length terms → partial target count terms j ≤ 2 ^ 33
+-- one term more
+one-more : (target count : ℕ) (terms : Terms) (j : ℕ) {sum r : ℕ} → j < terms .count → sum ≡ partial target count (listed terms) j → r ≡ rule.brings target (getD (terms .list) j no-term) (rule.coefOf count (getD (terms .list) j no-term)) → sum + r ≡ partial target count (listed terms) (j + 1)
 unfolding partial
-partial-fits target count terms h j l = coefs-fit terms h target count j l
-
-module _ (target count terms : ℕ) (to : List ℕ) (coef : List ℤ) (first second : List ℕ) where
-  one-more : (j : ℕ) {sum r : ℕ} → j < terms → SFits w64 (getD coef j (pos 0)) → sum ≡ partial target count (termsIn terms to coef first second) j → r ≡ rule.brings target (record { to = getD to j 0; coef = toZ w64 (ofZ w64 (getD coef j (pos 0))); first = getD first j 0; second = getD second j 0 }) (rule.coefOf count (record { to = getD to j 0; coef = toZ w64 (ofZ w64 (getD coef j (pos 0))); first = getD first j 0; second = getD second j 0 })) → sum + r ≡ partial target count (termsIn terms to coef first second) (j + 1)
-  unfolding partial termAt
-  one-more j l f e h =
-      rw (add-one j, sum-suc j (λ j. rule.brings target (getD (termsIn terms to coef first second) j no-term) (rule.coefOf count (getD (termsIn terms to coef first second) j no-term))), getD-terms terms to coef first second j l, e, h, toZ-ofZ f)
+one-more target count terms j l e h =
+    rw (add-one j, sum-suc j (λ j. rule.brings target (getD (listed terms) j no-term) (rule.coefOf count (getD (listed terms) j no-term))), getD-listed terms j l, e, h)
 
 abbrev Inv-loop : tie.InvT-loop
-Inv-loop target count terms to coef first second sum₀ j₀ sum j = (j ≤ terms) × (sum ≡ partial target count (termsIn terms to coef first second) j)
+Inv-loop target count terms sum₀ last j₀ sum j = (sum ≡ partial target count (listed terms) j) × (j ≤ terms .count)
 
 abbrev μ-loop : tie.MeasureT-loop
-μ-loop target count terms to coef first second sum₀ j₀ sum j = terms - j
+μ-loop target count terms sum₀ last j₀ sum j = terms .count - j
 
 loop-holds : tie.Need-loop-holds Inv-loop μ-loop
 unfolding range.sum partial
-loop-holds c = (omega arith, refl)
+loop-holds c = (refl, omega arith)
 
-mul-a : tie.Need-mul-a Inv-loop μ-loop
-mul-a c = omega arith
+loop-again : tie.Need-loop-again Inv-loop μ-loop
+unfolding no-term
+loop-again c =
+    let turn = c .before .before .before in
+    let at-start = turn .before in
+    (one-more (at-start .args .target) (at-start .args .count) (at-start .args .t3) (turn .loop .j) (c .before .before .loop-test .taken) (turn .loop .inv .0) (c .coef-of .ensures), omega arith)
 
-element-copy-out-a : tie.Need-element-copy-out-a Inv-loop μ-loop
-element-copy-out-a c = omega arith
+returns : tie.Need-returns Inv-loop μ-loop
+unfolding partial rule.coefs
+returns c =
+    let at-start = c .before .before in
+    let terms = at-start .args .t3 in
+    let done : c .before .loop .j ≡ length (listed terms) = omega (arith, length-listed terms) in
+    c .before .loop .inv .0 ∙ ap (partial (at-start .args .target) (at-start .args .count) (listed terms)) done
 
-mul-coef-of : tie.Need-mul-coef-of Inv-loop μ-loop
-mul-coef-of c = omega arith
+-- the sum over the first j terms is at most that over all
+partial-fits : (target count : ℕ) (terms : List Term) → total terms ≤ most-total → (j : ℕ) → j ≤ length terms → partial target count terms j ≤ most-total
+unfolding partial
+partial-fits target count terms h j l = coefs-fit terms h target count j l
 
-element-copy-out-coef-of : tie.Need-element-copy-out-coef-of Inv-loop μ-loop
-element-copy-out-coef-of c = omega arith
+mul-term : tie.Need-mul-term Inv-loop μ-loop
+mul-term c = omega arith
 
-mul-coef-of-2 : tie.Need-mul-coef-of-2 Inv-loop μ-loop
-mul-coef-of-2 c = omega arith
-
-element-copy-out-coef-of-2 : tie.Need-element-copy-out-coef-of-2 Inv-loop μ-loop
-element-copy-out-coef-of-2 c = omega arith
-
-mul-coef-of-3 : tie.Need-mul-coef-of-3 Inv-loop μ-loop
-mul-coef-of-3 c = omega arith
-
-element-copy-out-coef-of-3 : tie.Need-element-copy-out-coef-of-3 Inv-loop μ-loop
-element-copy-out-coef-of-3 c = omega arith
+element-copy-out-term : tie.Need-element-copy-out-term Inv-loop μ-loop
+element-copy-out-term c = omega arith
 
 coef-of-requires : tie.Need-coef-of-requires Inv-loop μ-loop
 coef-of-requires c κs = search needs
 
 add-sum : tie.Need-add-sum Inv-loop μ-loop
+unfolding no-term most-total
 add-sum c =
-    let s = c .before .before .before .before .before .before in
-    let a = s .before .args in
-    omega (arith, one-more (a .target) (a .count) (a .terms) (a .to .now) (a .coef .now) (a .first .now) (a .second .now) (s .loop .j) (c .before .before .before .before .before .loop-test .taken) (record { sfits = c .before .before .before .before .a .given }) (s .loop .inv .1) (c .coef-of .ensures), partial-fits (a .target) (a .count) (termsIn (a .terms) (a .to .now) (a .coef .now) (a .first .now) (a .second .now)) (s .before .pre .1) (s .loop .j + 1) (omega (arith, length-terms (a .terms) (a .to .now) (a .coef .now) (a .first .now) (a .second .now))))
+    let turn = c .before .before .before in
+    let at-start = turn .before in
+    let target = at-start .args .target in
+    let count = at-start .args .count in
+    let terms = at-start .args .t3 in
+    omega (arith, one-more target count terms (turn .loop .j) (c .before .before .loop-test .taken) (turn .loop .inv .0) (c .coef-of .ensures), partial-fits target count (listed terms) (at-start .pre .in-total) (turn .loop .j + 1) (omega (arith, length-listed terms)))
 
 add-j : tie.Need-add-j Inv-loop μ-loop
 add-j c = omega arith
 
 loop-less : tie.Need-loop-less Inv-loop μ-loop
 loop-less c = omega arith
-
-loop-again : tie.Need-loop-again Inv-loop μ-loop
-loop-again c =
-    let s = c .before .before .before .before .before .before in
-    let a = s .before .args in
-    (omega arith, one-more (a .target) (a .count) (a .terms) (a .to .now) (a .coef .now) (a .first .now) (a .second .now) (s .loop .j) (c .before .before .before .before .before .loop-test .taken) (record { sfits = c .before .before .before .before .a .given }) (s .loop .inv .1) (c .coef-of .ensures))
-
-returns : tie.Need-returns Inv-loop μ-loop
-unfolding partial rule.coefs
-returns c =
-    let a = c .before .before .args in
-    let done : c .before .loop .j ≡ length (termsIn (a .terms) (a .to .now) (a .coef .now) (a .first .now) (a .second .now)) = omega (arith, length-terms (a .terms) (a .to .now) (a .coef .now) (a .first .now) (a .second .now)) in
-    c .before .loop .inv .1 ∙ ap (partial (a .target) (a .count) (termsIn (a .terms) (a .to .now) (a .coef .now) (a .first .now) (a .second .now))) done
 
 pub coefs-spec : {M : Type 1} → statement M
 coefs-spec =
@@ -107,14 +92,8 @@ coefs-spec =
     Inv-loop
     μ-loop
     loop-holds
-    mul-a
-    element-copy-out-a
-    mul-coef-of
-    element-copy-out-coef-of
-    mul-coef-of-2
-    element-copy-out-coef-of-2
-    mul-coef-of-3
-    element-copy-out-coef-of-3
+    mul-term
+    element-copy-out-term
     coef-of-requires
     add-sum
     add-j

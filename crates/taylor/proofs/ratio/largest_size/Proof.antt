@@ -1,53 +1,64 @@
 -- `taylor::ratio::largest_size` meets its contract. The loop forms the largest size of the targets passed.
 -- Assumes nothing.
-use Prim.Native.Nat.{ℕ, suc, _+_, _-_, max, _≤_}
+use Prim.Native.Nat.{ℕ, _+_, _-_, max, _≤_, _<_}
+use mathlib.Core.List.{List}
 use mathlib.Core.Path.{_≡_, refl, ap, _∙_}
 use native.Mathlib.Numerals.{add-one}
 use native.Mathlib.Omega.{arith}
 use Rattle.model.specs.Range as range
-use Rattle.model.specs.Step as rule
-use Rattle.coefficients.specs.Layout.{termsIn}
+use Rattle.taylor.specs.Ratio.{Bounded, sizeBy}
 use Rattle.taylor.proofs.Balls.{largest-suc}
 use borrow.Author.Needs.{needs}
 use Rattle.taylor.proofs.ratio.largest_size.Statement.{statement}
 use Rattle.taylor.proofs.ratio.largest_size.Tie as tie
 
-one-more : (f : ℕ → ℕ) (i : ℕ) {largest next r : ℕ} → largest ≡ range.largest i (λ i. f (suc i)) → next ≡ f (i + 1) → r ≡ max largest next → r ≡ range.largest (i + 1) (λ i. f (suc i))
-one-more f i e g h = rw (h, e, g, add-one i, largest-suc i (λ i. f (suc i)))
+-- one size more
+one-more : (f : ℕ → ℕ) (i : ℕ) {largest next r : ℕ} → largest ≡ range.largest i f → next ≡ f i → r ≡ max largest next → r ≡ range.largest (i + 1) f
+one-more f i e g h = rw (h, e, g, add-one i, largest-suc i f)
 
 abbrev Inv-loop : tie.InvT-loop
-Inv-loop n greatest terms to coef first second largest₀ i₀ largest i = (i ≤ n) × (largest ≡ range.largest i (λ i. rule.size (termsIn terms to coef first second) greatest (suc i)))
+Inv-loop n reach sums largest₀ i₀ largest i = (largest ≡ range.largest i (sizeBy sums reach)) × (i ≤ n)
 
 abbrev μ-loop : tie.MeasureT-loop
-μ-loop n greatest terms to coef first second largest₀ i₀ largest i = n - i
+μ-loop n reach sums largest₀ i₀ largest i = n - i
 
 loop-holds : tie.Need-loop-holds Inv-loop μ-loop
 unfolding range.largest
-loop-holds c = (omega arith, refl)
+loop-holds c = (refl, omega arith)
 
-add-i : tie.Need-add-i Inv-loop μ-loop
-add-i c = omega arith
+loop-again : tie.Need-loop-again Inv-loop μ-loop
+loop-again c =
+    let turn = c .before .before .before in
+    let at-start = turn .before in
+    (one-more (sizeBy (at-start .args .sums .now) (at-start .args .reach)) (turn .loop .i) (turn .loop .inv .0) (c .before .size .ensures) (c .larger .ensures), omega arith)
+
+returns : tie.Need-returns Inv-loop μ-loop
+returns c =
+    let at-start = c .before .before in
+    let done : c .before .loop .i ≡ at-start .args .n = omega arith in
+    c .before .loop .inv .0 ∙ ap (λ (i : ℕ). range.largest i (sizeBy (at-start .args .sums .now) (at-start .args .reach))) done
+
+-- the sums of the target that is asked about
+first : {n i : ℕ} {sums : List ℕ} → Bounded n sums → i < n → Bounded (i + 1) sums
+first bounded h = record { each = λ j l. bounded .each j (omega (arith, l)) }
 
 size-requires : tie.Need-size-requires Inv-loop μ-loop
-size-requires c κs = c .before .before .pre .1
+size-requires c κs =
+    let at-start = c .before .before in
+    record {
+      few = omega (arith, at-start .pre .few, c .loop-test .taken);
+      bounded = rw (← add-one) (first (at-start .pre .bounded) (c .loop-test .taken));
+      reaching = at-start .pre .reaching;
+    }
 
 larger-requires : tie.Need-larger-requires Inv-loop μ-loop
 larger-requires c κs = search needs
 
+add-i : tie.Need-add-i Inv-loop μ-loop
+add-i c = omega arith
+
 loop-less : tie.Need-loop-less Inv-loop μ-loop
 loop-less c = omega arith
-
-loop-again : tie.Need-loop-again Inv-loop μ-loop
-loop-again c =
-    let s = c .before .before .before in
-    let a = s .before .args in
-    (omega arith, one-more (λ (i : ℕ). rule.size (termsIn (a .terms) (a .to .now) (a .coef .now) (a .first .now) (a .second .now)) (a .greatest) i) (s .loop .i) (s .loop .inv .1) (c .before .size .ensures) (c .larger .ensures))
-
-returns : tie.Need-returns Inv-loop μ-loop
-returns c =
-    let a = c .before .before .args in
-    let done : c .before .loop .i ≡ a .n = omega arith in
-    c .before .loop .inv .1 ∙ ap (λ (i : ℕ). range.largest i (λ i. rule.size (termsIn (a .terms) (a .to .now) (a .coef .now) (a .first .now) (a .second .now)) (a .greatest) (suc i))) done
 
 pub largest-size-spec : {M : Type 1} → statement M
 largest-size-spec =
@@ -56,9 +67,9 @@ largest-size-spec =
     Inv-loop
     μ-loop
     loop-holds
-    add-i
     size-requires
     larger-requires
+    add-i
     loop-less
     loop-again
     returns)

@@ -1,77 +1,104 @@
--- `taylor::ratio::size` meets its contract. The three sums of |A| are those of the target.
+-- `taylor::ratio::size` meets its contract. It is the definition, over the three sums of the target.
 -- Assumes nothing.
-use Prim.Native.Nat.{ℕ, _+_, _*_}
-use mathlib.Core.Path.{_≡_, ap}
+use Prim.Native.Nat.{ℕ, suc, _+_, _*_, _^_, _≤_}
 use mathlib.Core.List.{List}
+use mathlib.Core.Path.{_≡_}
 use native.Mathlib.Omega.{arith}
+use lib.ListN.{getD}
 use Rattle.rounding.specs.Rounding.{up}
 use Rattle.model.specs.Sheet.{scale}
-use Rattle.model.specs.Step as rule
-use Rattle.model.specs.declared.Term.{Term}
-use Rattle.model.proofs.RatioNumbers.{coefs-le, greatest-coefs-fit, size-fits}
-use Rattle.coefficients.specs.Layout.{termsIn}
+use Rattle.model.specs.Bounds.{most-total}
+use Rattle.model.proofs.RatioNumbers.{scaled-sum-fits, greatest-sum-fits, size-of-sums-fits}
+use Rattle.taylor.specs.Ratio.{counts, sumAt, Bounded, Reaching, sizeBy}
+use Rattle.taylor.proofs.Ratios.{first-place}
 use borrow.Author.Needs.{needs}
 use Rattle.taylor.proofs.ratio.size.Statement.{statement}
 use Rattle.taylor.proofs.ratio.size.Tie as tie
 
-size-is : (terms : List Term) (G target : ℕ) {none one two without both : ℕ} → none ≡ rule.coefs terms target 0 → one ≡ rule.coefs terms target 1 → two ≡ rule.coefs terms target 2 → without ≡ up (16777216 * none) G → both ≡ up (G * two) 16777216 → without + one + both ≡ rule.size terms G target
-unfolding rule.size scale
-size-is terms G target e₀ e₁ e₂ w b = rw (w, b, e₀, e₁, e₂)
+-- the definition, by the places of the sums
+size-is : (sums : List ℕ) (G i : ℕ) {without both : ℕ} → without ≡ up (scale * getD sums (counts * i) 0) G → both ≡ up (G * getD sums (counts * i + 2) 0) scale → without + getD sums (counts * i + 1) 0 + both ≡ sizeBy sums G i
+unfolding sizeBy sumAt
+size-is sums G i w b = rw (w, b, first-place i)
 
 returns : tie.Need-returns
+unfolding scale
 returns c =
-    let s = c .before .before .before .before .before in
-    let a = s .args in
-    size-is (termsIn (a .terms) (a .to .now) (a .coef .now) (a .first .now) (a .second .now)) (a .greatest) (a .target) (c .before .before .before .before .coefs .ensures) (c .before .before .before .coefs2 .ensures) (c .before .before .coefs3 .ensures) (c .before .up .ensures) (c .up2 .ensures)
+    let at-start = c .before .before .before .before .before in
+    size-is (at-start .args .sums .now) (at-start .args .reach) (at-start .args .i) (c .before .up .ensures) (c .up2 .ensures)
 
-coefs-requires : tie.Need-coefs-requires
-coefs-requires c κs = search needs
+-- what is known of the three sums
+known : {i : ℕ} {sums : List ℕ} → Bounded (suc i) sums → (getD sums (counts * i) 0 ≤ most-total) × ((getD sums (counts * i + 1) 0 ≤ most-total) × (getD sums (counts * i + 2) 0 ≤ most-total))
+unfolding sumAt
+known {i} bounded = (rw (first-place i) at (bounded .each i (omega arith) 0 (omega arith)), (bounded .each i (omega arith) 1 (omega arith), bounded .each i (omega arith) 2 (omega arith)))
 
-coefs-requires-2 : tie.Need-coefs-requires-2
-coefs-requires-2 c κs = search needs
+-- and of the sum of all, and of its first two
+sums-fit : {G i : ℕ} {sums : List ℕ} → Bounded (suc i) sums → Reaching G → up (scale * getD sums (counts * i) 0) G + getD sums (counts * i + 1) 0 + up (G * getD sums (counts * i + 2) 0) scale ≤ 2 ^ 39
+sums-fit bounded reaching = let z = known bounded in size-of-sums-fits (reaching .low) (reaching .high) (z .0) (z .1 .0) (z .1 .1)
 
-coefs-requires-3 : tie.Need-coefs-requires-3
-coefs-requires-3 c κs = search needs
+mul-first : tie.Need-mul-first
+mul-first c = search needs
+
+mul-none : tie.Need-mul-none
+mul-none c = search needs
+
+element-copy-out-none : tie.Need-element-copy-out-none
+element-copy-out-none c = search needs
+
+add-one : tie.Need-add-one
+add-one c = search needs
+
+mul-one : tie.Need-mul-one
+mul-one c = search needs
+
+element-copy-out-one : tie.Need-element-copy-out-one
+element-copy-out-one c = search needs
+
+add-two : tie.Need-add-two
+add-two c = search needs
+
+mul-two : tie.Need-mul-two
+mul-two c = search needs
+
+element-copy-out-two : tie.Need-element-copy-out-two
+element-copy-out-two c = search needs
 
 mul-up : tie.Need-mul-up
-mul-up c =
-    let s = c .before .before .before in
-    let a = s .args in
-    omega (arith, c .before .before .coefs .ensures, coefs-le (termsIn (a .terms) (a .to .now) (a .coef .now) (a .first .now) (a .second .now)) (s .pre .1 .0) (a .target) 0)
+unfolding scale
+mul-up c = omega (arith, scaled-sum-fits (known (c .before .before .before .pre .bounded) .0))
 
 up-requires : tie.Need-up-requires
 unfolding scale
-up-requires c κs = omega (arith, c .before .before .before .pre .1 .1 .0)
+up-requires c κs = omega (arith, c .before .before .before .pre .reaching .low)
 
 add-result : tie.Need-add-result
-unfolding rule.size scale
-add-result c =
-    let s = c .before .before .before .before in
-    let a = s .args in
-    omega (arith, ap (λ (z : ℕ). up (16777216 * z) (a .greatest)) (c .before .before .before .coefs .ensures), c .up .ensures, c .before .before .coefs2 .ensures, size-fits (termsIn (a .terms) (a .to .now) (a .coef .now) (a .first .now) (a .second .now)) (s .pre .1 .0) (s .pre .1 .1 .0) (s .pre .1 .1 .1) (a .target))
+unfolding scale
+add-result c = omega (arith, c .up .ensures, sums-fit (c .before .before .before .before .pre .bounded) (c .before .before .before .before .pre .reaching))
 
 mul-up-2 : tie.Need-mul-up-2
 mul-up-2 c =
-    let s = c .before .before .before .before in
-    let a = s .args in
-    omega (arith, ap (λ (z : ℕ). a .greatest * z) (c .before .coefs3 .ensures), greatest-coefs-fit (termsIn (a .terms) (a .to .now) (a .coef .now) (a .first .now) (a .second .now)) (s .pre .1 .0) (s .pre .1 .1 .0) (s .pre .1 .1 .1) (a .target) 2)
+    let pre = c .before .before .before .before .pre in
+    omega (arith, greatest-sum-fits (pre .reaching .low) (pre .reaching .high) (known (pre .bounded) .1 .1))
 
 up-requires-2 : tie.Need-up-requires-2
 up-requires-2 c κs = search needs
 
 add-result-2 : tie.Need-add-result-2
-add-result-2 c =
-    let s = c .before .before .before .before .before in
-    let a = s .args in
-    omega (arith, size-is (termsIn (a .terms) (a .to .now) (a .coef .now) (a .first .now) (a .second .now)) (a .greatest) (a .target) (c .before .before .before .before .coefs .ensures) (c .before .before .before .coefs2 .ensures) (c .before .before .coefs3 .ensures) (c .before .up .ensures) (c .up2 .ensures), size-fits (termsIn (a .terms) (a .to .now) (a .coef .now) (a .first .now) (a .second .now)) (s .pre .1 .0) (s .pre .1 .1 .0) (s .pre .1 .1 .1) (a .target))
+unfolding scale
+add-result-2 c = omega (arith, c .before .up .ensures, c .up2 .ensures, sums-fit (c .before .before .before .before .before .pre .bounded) (c .before .before .before .before .before .pre .reaching))
 
 pub size-spec : {M : Type 1} → statement M
 size-spec =
     tie.close
     (tie.spec
-    coefs-requires
-    coefs-requires-2
-    coefs-requires-3
+    mul-first
+    mul-none
+    element-copy-out-none
+    add-one
+    mul-one
+    element-copy-out-one
+    add-two
+    mul-two
+    element-copy-out-two
     mul-up
     up-requires
     add-result

@@ -2,97 +2,211 @@
 -- Assumes nothing.
 use Prim.Native.Nat.{ℕ, _≤_, _<_}
 use mathlib.Core.Bool.{true}
-use mathlib.Core.Path.{_≡_, sym, _∙_}
+use mathlib.Core.List.{List}
+use mathlib.Core.Path.{_≡_, sym, ap, _∙_}
+use native.Mathlib.Omega.{arith}
+use Rattle.model.proofs.Rows.{length-balls}
 use borrow.Author.Tests.{not-true, not-false, leb-true}
 use lib.Dec.{leb}
+use lib.ListN.{length}
+use mir.Syntax.{w64}
+use mir.Val.{toZ, ofZ}
 use mir.Facts.{toZ-ofZ}
 use Rattle.model.specs.Range.{every}
-use Rattle.model.specs.Sheet.{most}
-use Rattle.model.specs.Step.{reach, greatest, ratio}
+use Rattle.model.specs.Sheet.{most, listed}
+use Rattle.model.specs.Step.{Row, reach, greatest, ratio, degree, tailAt, newRow, stepRow}
 use Rattle.model.specs.Passage.{most-ratio}
+use Rattle.model.specs.Rows.{ballIn, ballsOf, laidOut}
+use Rattle.model.specs.declared.Ball.{Ball}
+use Rattle.model.specs.declared.Balls.{Balls}
+use Rattle.model.specs.declared.Head.{Head}
+use Rattle.model.specs.declared.Term.{Term}
 use Rattle.model.proofs.Verdicts.{every-holds}
-use Rattle.coefficients.specs.Layout.{quantities, ballIn, ballsIn, termsIn}
-use Rattle.coefficients.proofs.Terms.{terms-numbered}
-use Rattle.taylor.proofs.Answers.{too-large, too-fast, intolerable, moved, greatest-within, in-bounds}
+use Rattle.model.proofs.Degree.{IsDegree, degree-is-least}
+use Rattle.taylor.specs.Ratio.{Reaching}
+use Rattle.taylor.proofs.Ratios as ratios
+use Rattle.taylor.proofs.Answers.{too-large, too-long, intolerable, moved, greatest-within, in-bounds}
 use Rattle.taylor.proofs.step.take_step.Statement.{statement}
 use Rattle.taylor.proofs.step.take_step.Tie as tie
 
--- the function's entry, from where question 4 is answered yes
-abbrev start : tie.Else1 → tie.Start
-start c = c .before .before .before .before .before .before
+-- ---- the places of the code, each from a later one
 
-fits : (c : tie.Else1) → every (start c .args .n) (λ i. leb (reach (ballIn (start c .args .start .values) (start c .args .start .radii) i)) most) ≡ true
+-- the start, from where question 4 is answered yes
+abbrev start : tie.Else1 → tie.Start
+start c = c .before .before .before .before .before
+
+-- where question 4 is answered yes, from G
+abbrev yes-4 : tie.After-largest-reach → tie.Else1
+yes-4 c = c .before .before .before .before
+
+-- G, from the ratio
+abbrev at-reach : tie.After-ratio → tie.After-largest-reach
+at-reach c = c .before .before
+
+-- the ratio, from the degree and the tail
+abbrev at-ratio : tie.After-truncate → tie.After-ratio
+at-ratio c = c .before .before
+
+-- the degree and the tail, from the new row
+abbrev at-cut : tie.After-row-of → tie.After-truncate
+at-cut c = c .before .before .before .before .before .before
+
+-- the start, from the ratio
+abbrev start-of-ratio : tie.After-ratio → tie.Start
+start-of-ratio c = start (yes-4 (at-reach c))
+
+-- the start, from the degree and the tail
+abbrev start-of-cut : tie.After-truncate → tie.Start
+start-of-cut c = start-of-ratio (at-ratio c)
+
+-- the balls that the step starts from
+abbrev balls : tie.Start → List Ball
+balls s = ballsOf (s .args .head .n) (s .args .t4)
+
+-- ---- what the questions give
+
+-- question 4
+fits : (c : tie.Else1) → every (start c .args .head .n) (λ i. leb (reach (ballIn (start c .args .t4 .values) (start c .args .t4 .radii) i)) most) ≡ true
 fits c = sym (c .before .small .ensures) ∙ not-false _ (c .if1 .left)
 
-each : (c : tie.Else1) (i : ℕ) → i < start c .args .n → reach (ballIn (start c .args .start .values) (start c .args .start .radii) i) ≤ most
-each c i h = leb-true _ _ (every-holds (start c .args .n) (λ i. leb (reach (ballIn (start c .args .start .values) (start c .args .start .radii) i)) most) (fits c) i h)
+-- .. of each ball
+each : (c : tie.Else1) (i : ℕ) → i < start c .args .head .n → reach (ballIn (start c .args .t4 .values) (start c .args .t4 .radii) i) ≤ most
+each c i h = leb-true _ _ (every-holds (start c .args .head .n) (λ i. leb (reach (ballIn (start c .args .t4 .values) (start c .args .t4 .radii) i)) most) (fits c) i h)
 
+-- the step is a number of 64 bits
+step-kept : (c : tie.After-struct-told) →
+    let at-start = start (yes-4 (c .before)) in
+    toZ w64 (ofZ w64 (at-start .args .head .step)) ≡ at-start .args .head .step
+step-kept c = toZ-ofZ (record { sfits = c .struct-told .given .1 .1 .0 .1 })
+
+-- q
 ratio-is : (c : tie.After-ratio) →
-    let a = start (c .before .before .before .before) .args in
-    c .ratio .result ≡ ratio (termsIn (a .terms) (a .to .now) (a .coef .now) (a .first .now) (a .second .now)) (a .step) (a .n) (greatest (ballsIn (a .n) (a .start .values) (a .start .radii)))
-ratio-is c = rw (toZ-ofZ (start (c .before .before .before .before) .fits .step), c .before .greatest .ensures) at (c .ratio .ensures)
+    let at-start = start-of-ratio c in
+    c .ratio .result ≡ ratio (listed (at-start .args .terms)) (at-start .args .head .step) (at-start .args .head .n) (greatest (balls at-start))
+ratio-is c =
+    let at-start = start-of-ratio c in
+    ratios.ratio-is (at-start .pre .1 .0) (at-start .args .head .step) (balls at-start) (at-reach c .largest-reach .ensures) (rw (step-kept (c .before)) at (c .ratio .ensures))
+
+-- ---- the row, by its degree and tail
+
+module _ (terms : List Term) (head : Head) (balls : List Ball) (len : length balls ≡ head .n) {G q d tail : ℕ} (g : G ≡ greatest balls) (r : q ≡ ratio terms (head .step) (head .n) (greatest balls)) (hd : d ≡ degree G q (head .tail)) (ht : tail ≡ tailAt G q (degree G q (head .tail))) where
+  -- the row of this degree and tail is that of the step ..
+  row-is-step : newRow terms (head .step) balls d tail ≡ stepRow terms (head .step) (head .tail) balls
+  unfolding stepRow
+  row-is-step = rw (hd, ht, r, g, len)
+
+  -- .. as the code holds it too ..
+  laid-out-is-step : {row : Balls} → row ≡ laidOut (newRow terms (head .step) balls d tail .balls) → row ≡ laidOut (stepRow terms (head .step) (head .tail) balls .balls)
+  laid-out-is-step e = e ∙ ap (λ (row : Row). laidOut (row .balls)) row-is-step
+
+  -- .. and has this degree
+  degree-is-step : d ≡ stepRow terms (head .step) (head .tail) balls .degree
+  unfolding newRow
+  degree-is-step = ap (λ (row : Row). row .degree) row-is-step
+
+-- the new row
+row-is : (c : tie.After-row-of) →
+    let at-start = start-of-cut (at-cut c) in
+    c .row-of .result ≡ laidOut (stepRow (listed (at-start .args .terms)) (at-start .args .head .step) (at-start .args .head .tail) (balls at-start) .balls)
+row-is c =
+    let cut = at-cut c in
+    let at-start = start-of-cut cut in
+    laid-out-is-step (listed (at-start .args .terms)) (at-start .args .head) (balls at-start) (length-balls _ _ _) (at-reach (at-ratio cut) .largest-reach .ensures) (ratio-is (at-ratio cut)) (cut .truncate .ensures .0) (cut .truncate .ensures .1) (c .row-of .ensures .0)
+
+-- its degree
+degree-is : (c : tie.After-truncate) →
+    let at-start = start-of-cut c in
+    c .truncate .result .degree ≡ stepRow (listed (at-start .args .terms)) (at-start .args .head .step) (at-start .args .head .tail) (balls at-start) .degree
+degree-is c =
+    let at-start = start-of-cut c in
+    degree-is-step (listed (at-start .args .terms)) (at-start .args .head) (balls at-start) (length-balls _ _ _) (at-reach (at-ratio c) .largest-reach .ensures) (ratio-is (at-ratio c)) (c .truncate .ensures .0) (c .truncate .ensures .1)
+
+-- ---- the answers
 
 returns : tie.Need-returns
 returns c =
-    let s = c .before .before .before .before .before .before in
-    let a = s .args in
-    too-large (termsIn (a .terms) (a .to .now) (a .coef .now) (a .first .now) (a .second .now)) (a .step) (a .limit) (a .tol) (a .n) (a .start) (sym (c .before .small .ensures) ∙ not-true _ (c .if1 .taken))
+    let at-start = c .before .before .before .before .before in
+    (too-large (listed (at-start .args .terms)) (at-start .args .head) (at-start .args .t4) (sym (c .before .small .ensures) ∙ not-true _ (c .if1 .taken)), at-start .pre .1 .1)
 
 returns-2 : tie.Need-returns-2
 unfolding most-ratio
 returns-2 c =
-    let e = c .before .before .before .before .before in
-    let a = start e .args in
-    too-fast (termsIn (a .terms) (a .to .now) (a .coef .now) (a .first .now) (a .second .now)) (a .step) (a .limit) (a .tol) (a .n) (a .start) (fits e) (c .before .ratio .result) (ratio-is (c .before)) (c .if2 .taken)
+    let q = c .before in
+    let at-start = start-of-ratio q in
+    (too-long (listed (at-start .args .terms)) (at-start .args .head) (at-start .args .t4) (fits (yes-4 (at-reach q))) (q .ratio .result) (ratio-is q) (c .if2 .taken), at-start .pre .1 .1)
 
 returns-3 : tie.Need-returns-3
 unfolding most-ratio
 returns-3 c =
-    let w = c .before .before .before .before .before in
-    let r = w .before .before .before .before in
-    let e = r .before .before .before .before in
-    let s = start e in
-    let a = s .args in
-    intolerable (termsIn (a .terms) (a .to .now) (a .coef .now) (a .first .now) (a .second .now)) (a .step) (a .limit) (a .tol) (a .n) (a .start) (fits e) (r .ratio .result) (ratio-is r) (w .before .before .before .if2 .left) (w .row-of .result) (rw (toZ-ofZ (s .fits .step)) at (w .row-of .ensures)) (sym (c .before .tolerable .ensures) ∙ not-true _ (c .if3 .taken))
+    let row = c .before .before .before .before in
+    let cut = at-cut row in
+    let q = at-ratio cut in
+    let at-start = start-of-cut cut in
+    (intolerable (listed (at-start .args .terms)) (at-start .args .head) (at-start .args .t4) (fits (yes-4 (at-reach q))) (q .ratio .result) (ratio-is q) (cut .before .if2 .left) (row .row-of .result) (row-is row) (sym (c .before .tolerable .ensures) ∙ not-true _ (c .if3 .taken)), row .row-of .ensures .1)
 
 returns-4 : tie.Need-returns-4
 unfolding most-ratio
 returns-4 c =
-    let w = c .before .before .before .before .before in
-    let r = w .before .before .before .before in
-    let e = r .before .before .before .before in
-    let s = start e in
-    let a = s .args in
-    moved (termsIn (a .terms) (a .to .now) (a .coef .now) (a .first .now) (a .second .now)) (a .step) (a .limit) (a .tol) (a .n) (a .start) (fits e) (r .ratio .result) (ratio-is r) (w .before .before .before .if2 .left) (w .row-of .result) (rw (toZ-ofZ (s .fits .step)) at (w .row-of .ensures)) (sym (c .before .tolerable .ensures) ∙ not-false _ (c .if3 .left))
+    let row = c .before .before .before .before in
+    let cut = at-cut row in
+    let q = at-ratio cut in
+    let at-start = start-of-cut cut in
+    (moved (listed (at-start .args .terms)) (at-start .args .head) (at-start .args .t4) (fits (yes-4 (at-reach q))) (q .ratio .result) (ratio-is q) (cut .before .if2 .left) (row .row-of .result) (row-is row) (degree-is cut) (sym (c .before .tolerable .ensures) ∙ not-false _ (c .if3 .left)), row .row-of .ensures .1)
+
+-- ---- what the calls ask
 
 small-requires : tie.Need-small-requires
-small-requires c κs = c .before .before .before .before .pre .1 .0 .0
+small-requires c κs = c .before .before .before .pre .0 .room
 
-greatest-requires : tie.Need-greatest-requires
-unfolding quantities
-greatest-requires c κs = (start (c .before .before) .pre .1 .0 .0, each (c .before .before))
+largest-reach-requires : tie.Need-largest-reach-requires
+largest-reach-requires c κs = (start (c .before .before .before) .pre .0 .room, each (c .before .before .before))
+
+-- G is one whole at least and 32 at most
+reaching : (c : tie.After-largest-reach) → Reaching (c .largest-reach .result)
+reaching c =
+    let at-start = start (yes-4 c) in
+    rw (c .largest-reach .ensures) (greatest-within (at-start .args .head .n) (at-start .args .t4 .values) (at-start .args .t4 .radii) (each (yes-4 c)))
 
 ratio-requires : tie.Need-ratio-requires
-unfolding quantities
 ratio-requires c κs =
-    let e = c .before .before .before in
-    let s = start e in
-    let a = s .args in
-    let g = greatest-within (a .n) (a .start .values) (a .start .radii) (each e) in
-    (s .pre .1 .0 .0, (s .pre .1 .0 .1, (s .pre .0 .total, (rw (c .greatest .ensures) g, rw (toZ-ofZ (s .fits .step)) (s .pre .0 .step)))))
+    let at-start = start (yes-4 (c .before)) in (
+      rw (step-kept c) (at-start .pre .0 .bounds .step),
+      record {
+        few = at-start .pre .0 .room;
+        bounded = ratios.sums-bounded (at-start .pre .1 .0) (at-start .pre .0 .bounds .total);
+        reaching = reaching (c .before);
+      },
+    )
+
+truncate-requires : tie.Need-truncate-requires
+unfolding most-ratio
+truncate-requires c κs = (reaching (at-reach (c .before)) .high, (c .if2 .left, start-of-ratio (c .before) .pre .0 .tail-low))
+
+-- the degree is 28 at most, and the tail at most the sheet's
+least : (c : tie.After-truncate) →
+    let G = at-reach (at-ratio c) .largest-reach .result in
+    let q = at-ratio c .ratio .result in
+    let limit = start-of-cut c .args .head .tail in
+    IsDegree G q limit (degree G q limit)
+unfolding most-ratio
+least c = degree-is-least _ (reaching (at-reach (at-ratio c)) .high) (c .before .if2 .left) (start-of-cut c .pre .0 .tail-low)
 
 row-of-requires : tie.Need-row-of-requires
 unfolding most-ratio
 row-of-requires c κs =
-    let r = c .before .before .before in
-    let e = r .before .before .before .before in
-    let s = start e in
-    let a = s .args in
-    let slow = rw (ratio-is r) at (c .before .before .if2 .left) in
-    (rw (toZ-ofZ (s .fits .step)) (in-bounds (a .n) (a .start .values) (a .start .radii) (each e) (s .pre .0) slow), (terms-numbered (a .terms) (a .to .now) (a .coef .now) (a .first .now) (a .second .now) (s .pre .0) (s .pre .1 .0 .0), (r .before .greatest .ensures, (r .ratio .ensures, (s .pre .1 .0 .0, s .pre .1 .0 .1, s .pre .1 .1 .0, s .pre .1 .1 .1)))))
+    let cut = c .before .before .before .before .before in
+    let q = at-ratio cut in
+    let at-start = start-of-cut cut in
+    record {
+      bounds = in-bounds (at-start .args .head .n) (at-start .args .t4 .values) (at-start .args .t4 .radii) (each (yes-4 (at-reach q))) (at-start .pre .0 .bounds) (rw (ratio-is q) at (cut .before .if2 .left));
+      room = at-start .pre .0 .room;
+      degree = omega (arith, cut .truncate .ensures .0, least cut .at-most);
+      tail = omega (arith, cut .truncate .ensures .1, least cut .within, at-start .pre .0 .tail-high);
+      usable = at-start .pre .1 .1;
+    }
 
 tolerable-requires : tie.Need-tolerable-requires
-tolerable-requires c κs = start (c .before .before .before .before .before .before .before .before .before .before .before) .pre .1 .0 .0
+tolerable-requires c κs = start-of-cut (at-cut (c .before .before)) .pre .0 .room
 
 pub take-step-spec : {M : Type 1} → statement M
 take-step-spec =
@@ -100,9 +214,10 @@ take-step-spec =
     (tie.spec
     small-requires
     returns
-    greatest-requires
+    largest-reach-requires
     ratio-requires
     returns-2
+    truncate-requires
     row-of-requires
     tolerable-requires
     returns-3

@@ -1,0 +1,2 @@
+mod OneProduct
+pub mod Places
