@@ -1,0 +1,27 @@
+-- `decimal::put_byte` meets its contract. A store past the end would change nothing, and is left out.
+-- Assumes nothing.
+use mathlib.Core.Logic.{⊎-elim}
+use mathlib.Core.Path.{_≡_, refl, sym, _∙_}
+use lib.ListN.{length-set, set}
+use lib.Seq.{set-out}
+use borrow.Author.Needs.{needs}
+use Rattle.decimal.proofs.put_byte.Statement.{statement}
+use Rattle.decimal.proofs.put_byte.Tie as tie
+
+stored-byte : (c : tie.Joined1) → c .if1 .text ≡ set (c .before .args .text .now) (c .before .args .at) (c .before .args .byte)
+stored-byte c = ⊎-elim (λ w. w .1) (λ w. w .1 ∙ sym (set-out _ _ _ (w .0 .left))) (c .if1 .came)
+
+returns : tie.Need-returns
+returns c = record { counted = refl; stored = stored-byte c }
+
+slice-write-text : tie.Need-slice-write-text
+slice-write-text c = search needs
+
+add-result : tie.Need-add-result
+add-result c = search needs
+
+same-length : tie.Need-same-length
+same-length c = rw (stored-byte c, length-set)
+
+pub put-byte-spec : {M : Type 1} → statement M
+put-byte-spec = tie.close (tie.spec slice-write-text add-result same-length returns)

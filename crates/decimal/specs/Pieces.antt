@@ -1,0 +1,33 @@
+-- Text put into a lent buffer, piece after piece. As with C's snprintf, the bytes that lie past the buffer's end are counted and not stored:
+-- the count is of the whole text, and the buffer holds as much of it as fits.
+use Prim.Native.Nat.{ℕ, _+_, _^_, _/_, _%_, _<_}
+use mathlib.Core.List.{List, [], _∷_, _++_}
+use mathlib.Core.Path.{_≡_}
+use lib.IntN.{ℤ}
+use lib.ListN.{length, take, drop}
+use lib.Seq.{sets}
+use Rattle.model.specs.Range.{bytes}
+use Rattle.model.specs.Answer.{digit, decimal}
+
+-- From `before` to `after` a text was put at `at`, and `next` is the place that follows it.
+pub record Put (before : List ℕ) (at : ℕ) (text : List ℕ) (next : ℕ) (after : List ℕ) : Type 0 where
+  pub counted : next ≡ at + length text
+  pub stored : after ≡ sets before at text
+
+-- A text was put from the buffer's start on: how long it is, and that the buffer holds as much of it as fits, with every
+-- byte past it unchanged.
+pub record Printed (before text : List ℕ) (count : ℕ) (after : List ℕ) : Type 0 where
+  pub counted : count ≡ length text
+  pub held : after ≡ take (length before) text ++ drop (length text) before
+
+-- The place that follows the text is a number of 64 bits.
+pub record Countable (at : ℕ) (text : List ℕ) : Type 0 where
+  pub fits : at + length text < 2 ^ 64
+
+-- The two digits of a number below 100, a leading 0 with them.
+abbrev pub pair : ℕ → List ℕ
+pair n = digit (n / 10) ∷ digit (n % 10) ∷ []
+
+-- The line of a whole number, behind a key that has its `=`.
+abbrev pub lineOf : List ℕ → ℤ → List ℕ
+lineOf key z = key ++ decimal z ++ bytes "\n"
