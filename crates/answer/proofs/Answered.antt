@@ -4,46 +4,52 @@ use Prim.Native.Nat.{ℕ, _*_, _≤_, _<_}
 use mathlib.Core.List.{List}
 use mathlib.Core.Path.{_≡_, refl, sym, ap, _∙_}
 use native.Mathlib.Omega.{arith}
-use native.Mathlib.Nat.{le-trans, le-refl, mul-le-mul, mul-le-mul-right}
+use native.Mathlib.Nat.{le-trans, le-refl, mul-le-mul-right}
 use lib.IntN.{ℤ}
 use lib.ListN.{length, take}
 use lib.Seq.{take-all}
 use Rattle.model.specs.Answer.{answer, runText, runOf}
-use Rattle.model.specs.Passage.{Run, passage, run, refused, places, written, width, placesNeeded, rowsIn, rowsWritten}
-use Rattle.model.specs.Reading.{most-bytes, readSheet}
-use Rattle.model.specs.Sheet.{n-limits, steps-limits, sheetVerdict, refuses, no-sheet, inRange, ask, within, from_to_, _then_}
+use Rattle.model.specs.Rows.{width, places, written, rowsIn}
+use Rattle.model.specs.Passage.{Run, passage, run, refused, placesNeeded, rowsWritten}
+use Rattle.model.specs.Reading.{readSheet}
+use Rattle.model.specs.Sheet.{most-bytes, most-quantities, most-steps, n-limits, headVerdict, no-head, sheetVerdict, refuses, no-sheet, inRange, ask, within, from_to_, _then_}
+use Rattle.model.specs.Trust.{TrustedOf}
 use Rattle.model.specs.declared.Outcome.{Outcome}
 use Rattle.model.specs.declared.Outcome.the-variants.{Accepted, Refused}
 use Rattle.model.specs.declared.Refusal.{Refusal}
 use Rattle.model.specs.declared.Refusal.the-variants.{OutOfRange}
-use Rattle.model.specs.declared.Reading.{Reading as ReadSheet}
+use Rattle.model.specs.declared.ReadSheet.{ReadSheet}
 use Rattle.model.specs.declared.Sheet.{Sheet}
 use Rattle.model.proofs.Readings.{accepted-is-acceptable, refused-is-zeros, read-from-front}
-use Rattle.model.proofs.Passages.{Wide, rows-of-run, rows-of-passage, rows-in-written, places-length, written-length, passage-refused, passage-runs, passage-either}
+use Rattle.model.proofs.Rows.{Wide, rows-in-written, places-length, written-length, rows-fit}
+use Rattle.model.proofs.Passages.{rows-of-run, rows-of-passage, passage-refused, passage-runs, passage-either}
 use Rattle.model.proofs.Trusted.{passage-trusted}
-use Rattle.model.proofs.Verdicts.{in-range, sheet-in-range}
+use Rattle.model.proofs.SheetBounds.{Counts, counts-of-sheet}
 use Rattle.answer.specs.declared.Ended.{Ended}
-use Rattle.answer.specs.Text.{Printed}
-use Rattle.answer.specs.Answered.{runLent, endedOf, Ran, TrustedOf, TrustedLent, TrustedText, FrontOf, AnswersAlike}
+use Rattle.rows.specs.Room.{HasRows}
+use Rattle.decimal.specs.Pieces.{Printed}
+use Rattle.answer.specs.Answered.{runLent, endedOf, Ran, TrustedLent, TrustedText, FrontOf, AnswersAlike}
+
+-- ---- places and counts
 
 no-rows-fit : (r : Refusal) (lent n : ℕ) → length (refused r 0 .rows) * width n ≤ lent
 unfolding refused
 no-rows-fit r lent n = omega arith
 
-rows-fit : (sheet : Sheet) (lent : ℕ) → length (passage sheet lent .rows) * width (sheet .n) ≤ lent
+-- a passage has no more rows than there are places for
+passage-fits : (sheet : Sheet) (lent : ℕ) → length (passage sheet lent .rows) * width (sheet .head .n) ≤ lent
 unfolding placesNeeded
-rows-fit sheet lent =
-    passage-either sheet lent (λ run. length (run .rows) * width (sheet .n) ≤ lent) (λ r. no-rows-fit r lent (sheet .n)) (λ e room. le-trans (mul-le-mul-right (width (sheet .n)) (rows-of-run sheet .fits)) room)
+passage-fits sheet lent =
+    passage-either sheet lent (λ run. length (run .rows) * width (sheet .head .n) ≤ lent) (λ r. no-rows-fit r lent (sheet .head .n)) (λ e room. le-trans (mul-le-mul-right (width (sheet .head .n)) (rows-of-run sheet .fits)) room)
 
+-- a sheet of zeros is out of range
 zeros-refused : sheetVerdict no-sheet ≡ refuses OutOfRange
-unfolding sheetVerdict no-sheet inRange ask within n-limits from_to_ _then_
+unfolding sheetVerdict headVerdict no-sheet no-head inRange ask within n-limits from_to_ _then_
 zeros-refused = refl
 
-counts-of-accepted : (sheet : List ℕ) → readSheet sheet .outcome ≡ Accepted → (readSheet sheet .sheet .n ≤ 8) × (readSheet sheet .sheet .steps ≤ 400)
-unfolding n-limits steps-limits
-counts-of-accepted sheet e =
-    let ranges = sheet-in-range (readSheet sheet .sheet) (accepted-is-acceptable sheet e .verdict) in
-    (in-range _ (ranges .n) .1, in-range _ (ranges .steps) .1)
+-- those of a sheet that was read
+counts-of-accepted : (sheet : List ℕ) → readSheet sheet .outcome ≡ Accepted → Counts (readSheet sheet .sheet)
+counts-of-accepted sheet e = counts-of-sheet (readSheet sheet .sheet) (accepted-is-acceptable sheet e .verdict)
 
 -- ---- by what the sheet is read as
 
@@ -66,24 +72,24 @@ module _ (sheet : List ℕ) (lent : ℕ) where
 
   -- ---- the rows
 
-  wide : Wide (readSheet sheet .sheet .n) (runLent sheet lent .rows)
+  wide : Wide (readSheet sheet .sheet .head .n) (runLent sheet lent .rows)
   wide = rw rows-are (rows-of-passage (readSheet sheet .sheet) lent .wide)
 
   -- they have their places, since refusal 5 comes first
-  fit : length (runLent sheet lent .rows) * width (readSheet sheet .sheet .n) ≤ lent
-  fit = rw rows-are (rows-fit (readSheet sheet .sheet) lent)
+  fit : length (runLent sheet lent .rows) * width (readSheet sheet .sheet .head .n) ≤ lent
+  fit = rw rows-are (passage-fits (readSheet sheet .sheet) lent)
 
-  few : (readSheet sheet .sheet .n ≤ 8) × (length (runLent sheet lent .rows) ≤ 400)
+  few : (readSheet sheet .sheet .head .n ≤ most-quantities) × (length (runLent sheet lent .rows) ≤ most-steps)
   few = go (readSheet sheet .outcome) refl
     where
-      go : (outcome : Outcome) → readSheet sheet .outcome ≡ outcome → (readSheet sheet .sheet .n ≤ 8) × (length (runLent sheet lent .rows) ≤ 400)
+      go : (outcome : Outcome) → readSheet sheet .outcome ≡ outcome → (readSheet sheet .sheet .head .n ≤ most-quantities) × (length (runLent sheet lent .rows) ≤ most-steps)
       go Accepted e =
-          let ranges = counts-of-accepted sheet e in
-          (ranges .0, rw rows-are (le-trans (rows-of-passage (readSheet sheet .sheet) lent .fits) (ranges .1)))
-      go (Refused r step) e = unfold refused no-sheet in rw (lent-refused e, refused-is-zeros sheet e .zeros) (omega arith, omega arith)
+          let counts = counts-of-accepted sheet e in
+          (counts .n-high, rw rows-are (le-trans (rows-of-passage (readSheet sheet .sheet) lent .fits) (counts .steps-high)))
+      go (Refused r step) e = unfold refused no-sheet no-head in rw (lent-refused e, refused-is-zeros sheet e .zeros) (omega arith, omega arith)
 
 -- read back from the buffer, they are the same
-read-back : (sheet : List ℕ) (before : List ℤ) → let rows = runLent sheet (length before) .rows in rowsIn (readSheet sheet .sheet .n) (length rows) (written rows before) ≡ rows
+read-back : (sheet : List ℕ) (before : List ℤ) → let rows = runLent sheet (length before) .rows in rowsIn (readSheet sheet .sheet .head .n) (length rows) (written rows before) ≡ rows
 read-back sheet before = rows-in-written (wide sheet (length before)) before
 
 -- ---- a sheet that was read and run
@@ -92,13 +98,13 @@ module _ (sheet : List ℕ) {read : ReadSheet} (is : read ≡ readSheet sheet) (
   outcome-is : {outcome : Outcome} → read .outcome ≡ outcome → readSheet sheet .outcome ≡ outcome
   outcome-is told = ap (λ (x : ReadSheet). x .outcome) (sym is) ∙ told
 
-  pub ran-refused : {r : Refusal} {step : ℕ} → read .outcome ≡ Refused r step → Ran sheet before before (record { n = read .sheet .n; count = 0; outcome = read .outcome })
+  pub ran-refused : {r : Refusal} {step : ℕ} → read .outcome ≡ Refused r step → Ran sheet before before (record { n = read .sheet .head .n; count = 0; outcome = read .outcome })
   unfolding endedOf refused written places
   ran-refused told =
       let e = outcome-is told in
       record { answer = rw (lent-refused sheet (length before) e, is, e); buffer = rw (lent-refused sheet (length before) e) }
 
-  pub ran-accepted : {outcome : Outcome} {after : List ℤ} → read .outcome ≡ Accepted → outcome ≡ passage (read .sheet) (length before) .outcome → after ≡ written (passage (read .sheet) (length before) .rows) before → Ran sheet before after (record { n = read .sheet .n; count = rowsWritten (read .sheet) outcome; outcome = outcome })
+  pub ran-accepted : {outcome : Outcome} {after : List ℤ} → read .outcome ≡ Accepted → outcome ≡ passage (read .sheet) (length before) .outcome → after ≡ written (passage (read .sheet) (length before) .rows) before → Ran sheet before after (record { n = read .sheet .head .n; count = rowsWritten (read .sheet) outcome; outcome = outcome })
   unfolding endedOf
   ran-accepted told ended left =
       let run = lent-accepted sheet (length before) (outcome-is told) ∙ ap (λ (x : ReadSheet). passage (x .sheet) (length before)) (sym is) in
@@ -112,9 +118,15 @@ module _ (sheet : List ℕ) {before after : List ℤ} {ended : Ended} (ran : Ran
   unfolding endedOf
   ran-text = rw (ran .answer, ran .buffer, read-back sheet before)
 
-  pub ran-bounds : ((ended .n ≤ 8) × (ended .count ≤ 400)) × (ended .count * width (ended .n) ≤ length after)
+  pub ran-bounds : HasRows (ended .n) (ended .count) after × (ended .count ≤ most-steps)
   unfolding endedOf
-  ran-bounds = rw (ran .answer, ran .buffer, written-length (runLent sheet (length before) .rows) before (rw (places-length (wide sheet (length before))) (fit sheet (length before)))) (few sheet (length before), fit sheet (length before))
+  ran-bounds = rw (ran .answer, ran .buffer) (record { few = few sheet lent .0; room = rw same-length (fit sheet lent) }, few sheet lent .1)
+    where
+      lent : ℕ
+      lent = length before
+
+      same-length : length (written (runLent sheet lent .rows) before) ≡ lent
+      same-length = written-length (runLent sheet lent .rows) before (rw (places-length (wide sheet lent)) (fit sheet lent))
 
   pub ran-trusted : TrustedLent sheet (length before) after
   unfolding TrustedLent TrustedOf
@@ -122,27 +134,29 @@ module _ (sheet : List ℕ) {before after : List ℤ} {ended : Ended} (ran : Ran
 
 -- ---- with places enough, document 01's answer
 
-needs-at-most : (sheet : Sheet) {lent : ℕ} → sheet .n ≤ 8 → sheet .steps ≤ 400 → 400 * width 8 ≤ lent → placesNeeded sheet ≤ lent
-unfolding placesNeeded width
-needs-at-most sheet n steps enough = le-trans (mul-le-mul {m₂ = 17} steps (omega arith)) enough
+needs-at-most : (sheet : Sheet) {lent : ℕ} → sheet .head .n ≤ most-quantities → sheet .head .steps ≤ most-steps → most-steps * width most-quantities ≤ lent → placesNeeded sheet ≤ lent
+unfolding placesNeeded
+needs-at-most sheet n steps enough = le-trans (rows-fit (sheet .head .steps) (sheet .head .n) steps n) enough
 
-enough-is-run : (sheet : List ℕ) (lent : ℕ) → 400 * width 8 ≤ lent → runLent sheet lent ≡ runOf sheet
+enough-is-run : (sheet : List ℕ) (lent : ℕ) → most-steps * width most-quantities ≤ lent → runLent sheet lent ≡ runOf sheet
 unfolding runOf
 enough-is-run sheet lent enough = go (readSheet sheet .outcome) refl
   where
     go : (outcome : Outcome) → readSheet sheet .outcome ≡ outcome → runLent sheet lent ≡ runOf sheet
     go Accepted e =
         let counts = counts-of-accepted sheet e in
-        lent-accepted sheet lent e ∙ passage-runs (readSheet sheet .sheet) lent (accepted-is-acceptable sheet e .verdict) (needs-at-most (readSheet sheet .sheet) (counts .0) (counts .1) enough) ∙ sym (rw (e, runOf))
+        lent-accepted sheet lent e ∙ passage-runs (readSheet sheet .sheet) lent (accepted-is-acceptable sheet e .verdict) (needs-at-most (readSheet sheet .sheet) (counts .n-high) (counts .steps-high) enough) ∙ sym (rw (e, runOf))
     go (Refused r step) e = lent-refused sheet lent e ∙ sym (rw (e, runOf))
 
-pub enough-is-answer : (sheet : List ℕ) (lent : ℕ) → 400 * width 8 ≤ lent → runText (runLent sheet lent) ≡ answer sheet
+pub enough-is-answer : (sheet : List ℕ) (lent : ℕ) → most-steps * width most-quantities ≤ lent → runText (runLent sheet lent) ≡ answer sheet
 unfolding answer
 enough-is-answer sheet lent enough = ap runText (enough-is-run sheet lent enough)
 
 run-trusted : (sheet : List ℕ) → TrustedOf (readSheet sheet .sheet) (runOf sheet .rows)
 unfolding TrustedOf
-run-trusted sheet = rw (← (enough-is-run sheet (400 * width 8) (le-refl (400 * width 8))), rows-are sheet (400 * width 8)) (passage-trusted (readSheet sheet .sheet) (400 * width 8))
+run-trusted sheet =
+    let places = most-steps * width most-quantities in
+    rw (← (enough-is-run sheet places (le-refl places)), rows-are sheet places) (passage-trusted (readSheet sheet .sheet) places)
 
 pub text-trusted : (sheet : List ℕ) {before after : List ℕ} {count : ℕ} → Printed before (answer sheet) count after → TrustedText sheet before count after
 unfolding answer

@@ -1,5 +1,1 @@
-mod Pieces
-mod Decimal
-mod Rows
-mod Lengths
 mod Answered

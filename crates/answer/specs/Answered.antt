@@ -5,14 +5,13 @@ use mathlib.Core.Path.{_≡_}
 use lib.IntN.{ℤ}
 use lib.ListN.{length, take}
 use Rattle.model.specs.Answer.{runText, answer}
-use Rattle.model.specs.Passage.{Run, refused, passage, termsOf, startsOf, written, rowsIn}
+use Rattle.model.specs.Rows.{written, rowsIn}
+use Rattle.model.specs.Passage.{Run, refused, passage}
 use Rattle.model.specs.Reading.{readSheet}
 use Rattle.model.specs.Sheet.{result, refusedStep}
-use Rattle.model.specs.Step.{Row}
-use Rattle.model.specs.Trust.{Trusted}
+use Rattle.model.specs.Trust.{TrustedOf}
 use Rattle.model.specs.declared.Outcome.the-variants.{Accepted, Refused}
-use Rattle.model.specs.declared.Sheet.{Sheet}
-use Rattle.answer.specs.Text.{Printed}
+use Rattle.decimal.specs.Pieces.{Printed}
 use Rattle.answer.specs.declared.Ended.{Ended}
 
 -- a sheet's passage, or its refusal and no row. With places enough it is `runOf` of document 01 (proofs/Answered.antt).
@@ -25,27 +24,28 @@ runLent sheet places =
 unfoldable pub endedOf : List ℕ → ℕ → Ended
 endedOf sheet places =
     let run = runLent sheet places in
-    record { n = readSheet sheet .sheet .n; count = length (run .rows); outcome = run .outcome }
+    record { n = readSheet sheet .sheet .head .n; count = length (run .rows); outcome = run .outcome }
 
 -- A sheet was read and run: what came of it, and the buffer lent for the rows, before and after.
 pub record Ran (sheet : List ℕ) (before after : List ℤ) (ended : Ended) : Type 0 where
   pub answer : ended ≡ endedOf sheet (length before)
   pub buffer : after ≡ written (runLent sheet (length before) .rows) before
 
--- the same as four numbers: result, refused step, quantities, rows
+-- how many numbers a summary has
+abbrev pub summary-length : ℕ
+summary-length = 4
+
+-- the same as so many numbers: result, refused step, quantities, rows
 unfoldable pub summaryOf : Ended → List ℕ
 summaryOf ended = result (ended .outcome) ∷ refusedStep (ended .outcome) ∷ ended .n ∷ ended .count ∷ []
 
 -- ---- demand 3, of the sheet that the bytes read as
 
-unfoldable pub TrustedOf : Sheet → List Row → Type 0
-TrustedOf sheet rows = Trusted (termsOf sheet) (sheet .step) (sheet .tol) (startsOf sheet) rows
-
 -- of the rows written, as they stand in the buffer
 unfoldable pub TrustedLent : List ℕ → ℕ → List ℤ → Type 0
 TrustedLent sheet places after =
     let read = readSheet sheet .sheet in
-    TrustedOf read (rowsIn (read .n) (length (runLent sheet places .rows)) after)
+    TrustedOf read (rowsIn (read .head .n) (length (runLent sheet places .rows)) after)
 
 -- of the text that was printed: it is that of a run, and the run's rows are trusted
 pub record TrustedText (sheet before : List ℕ) (count : ℕ) (after : List ℕ) : Type 0 where

@@ -1,32 +1,34 @@
 // The answer to a sheet: from its bytes, by way of buffers for the rows and the text, to the text's bytes.
-mod text;
-
 ghost use mathlib.Core.Path.{_≡_};
 ghost use mathlib.Core.List.{List};
 ghost use Prim.Native.Nat.{ℕ, _≤_};
 ghost use lib.ListN.{length, take};
 ghost use Rattle.model.specs.Answer.{answer, runText};
-ghost use Rattle.model.specs.Passage as passage;
-ghost use Rattle.answer.specs.Answered.{runLent, endedOf, Ran, summaryOf, TrustedLent, TrustedText, FrontOf, AnswersAlike};
-ghost use Rattle.answer.specs.Text.{Printed, «most-answer»};
+ghost use Rattle.model.specs.Rows.{written};
+ghost use Rattle.model.specs.Passage.{rowsWritten};
+ghost use Rattle.decimal.specs.Pieces.{Printed};
+ghost use Rattle.text.specs.Lengths.{most-answer};
+ghost use Rattle.answer.specs.Answered.{runLent, endedOf, Ran, summary-length, summaryOf, TrustedLent, TrustedText, FrontOf, AnswersAlike};
+use model::MOST_BYTES;
 use model::Outcome;
 use model::Sheet;
-use passage::run::run;
-use sheet::reading::read;
+use model::refused_step;
+use model::result;
+use passage::run;
+use sheet::read;
 use text::put_run;
-use text::refused_step;
-use text::result;
 
 // Sizes that suffice for every sheet. c/planner.h has the same, and the test command compares them.
 
 // Bytes to read a sheet into: one more than a sheet may have, so that a longer one is seen to be too long.
-pub const SHEET_LENGTH: usize = 4097;
+pub const SHEET_LENGTH: usize = MOST_BYTES + 1;
 
-// Places for the rows: 400 steps of 8 quantities.
-pub const ROWS_LENGTH: usize = 6800;
+// Places for the rows, and bytes for the answer's text.
+pub use rows::ROWS_LENGTH;
+pub use text::TEXT_LENGTH;
 
-// Bytes for the answer's text.
-pub const TEXT_LENGTH: usize = 204454;
+// The numbers of a summary.
+pub const SUMMARY_LENGTH: usize = 4;
 
 // What came of a sheet: its quantities, 0 where it was not read; the rows written; the outcome.
 pub struct Ended {
@@ -37,10 +39,10 @@ pub struct Ended {
 
 // How many rows the passage of a sheet has written.
 fn rows_written(sheet: Sheet, outcome: Outcome) -> usize
-    ensures { λ r. ⌜ r ≡ passage.rowsWritten sheet outcome ⌝ }
+    ensures { λ r. ⌜ r ≡ rowsWritten sheet outcome ⌝ }
 {
     match outcome {
-        Outcome::Accepted => sheet.steps,
+        Outcome::Accepted => sheet.head.steps,
         Outcome::Refused(_, step) => { if step == 0 { 0 } else { step - 1 } }
     }
 }
@@ -51,7 +53,7 @@ fn run_sheet(sheet: &[u8], rows: &mut [i64]) -> Ended
 {
     let reading = read(sheet);
     let read_as = reading.sheet;
-    let n = read_as.n;
+    let n = read_as.head.n;
     let refused = reading.outcome;
     if let Outcome::Refused(_, _) = refused {
         return Ended {
@@ -73,7 +75,7 @@ fn run_sheet(sheet: &[u8], rows: &mut [i64]) -> Ended
 #[no_mangle]
 pub extern "C" fn planner_answer(sheet: &[u8], rows: &mut [i64], text: &mut [u8]) -> usize
     ensures printed { λ r. ⌜ Printed (now (text .entry)) (runText (runLent (now (sheet .entry)) (length (now (rows .entry))))) r (now (text .exit)) ⌝ }
-    ensures written { λ _. ⌜ now (rows .exit) ≡ passage.written (runLent (now (sheet .entry)) (length (now (rows .entry))) .rows) (now (rows .entry)) ⌝ }
+    ensures written { λ _. ⌜ now (rows .exit) ≡ written (runLent (now (sheet .entry)) (length (now (rows .entry))) .rows) (now (rows .entry)) ⌝ }
     ensures bounded { λ r. ⌜ r ≤ most-answer ⌝ }
     ensures trusted { λ _. ⌜ TrustedLent (now (sheet .entry)) (length (now (rows .entry))) (now (rows .exit)) ⌝ }
 {
@@ -84,7 +86,7 @@ pub extern "C" fn planner_answer(sheet: &[u8], rows: &mut [i64], text: &mut [u8]
 
 // The result, the refused step, the sheet's quantities and the rows written.
 fn put_summary(summary: &mut [u64], ended: Ended)
-    requires { ⌜ length (now summary) ≡ 4 ⌝ }
+    requires { ⌜ length (now summary) ≡ summary-length ⌝ }
     ensures { λ _. ⌜ now (summary .exit) ≡ summaryOf ended ⌝ }
 {
     let outcome = ended.outcome;
@@ -97,9 +99,9 @@ fn put_summary(summary: &mut [u64], ended: Ended)
 // Reads a sheet and runs its passage into `rows`, without a text. `summary` is then the result, the refused step, the
 // sheet's quantities and the rows written.
 #[no_mangle]
-pub extern "C" fn planner_run(sheet: &[u8], rows: &mut [i64], summary: &mut [u64; 4])
+pub extern "C" fn planner_run(sheet: &[u8], rows: &mut [i64], summary: &mut [u64; SUMMARY_LENGTH])
     ensures summarised { λ _. ⌜ now (summary .exit) ≡ summaryOf (endedOf (now (sheet .entry)) (length (now (rows .entry)))) ⌝ }
-    ensures written { λ _. ⌜ now (rows .exit) ≡ passage.written (runLent (now (sheet .entry)) (length (now (rows .entry))) .rows) (now (rows .entry)) ⌝ }
+    ensures written { λ _. ⌜ now (rows .exit) ≡ written (runLent (now (sheet .entry)) (length (now (rows .entry))) .rows) (now (rows .entry)) ⌝ }
     ensures trusted { λ _. ⌜ TrustedLent (now (sheet .entry)) (length (now (rows .entry))) (now (rows .exit)) ⌝ }
 {
     let ended = run_sheet(sheet, rows);

@@ -5,43 +5,45 @@ use mathlib.Core.List.{List}
 use lib.IntN.{ℤ}
 use lib.ListN.{length}
 use Rattle.model.specs.Sheet.{result, refusedStep, Gives, passes, refuses, sheetVerdict}
-use Rattle.model.specs.Passage.{termsOf, startsOf, placesNeeded, run, passage, refused, places, written, Finished}
+use Rattle.model.specs.Passage.{placesNeeded, run, passage, refused, Kept}
+use Rattle.model.specs.Rows.{places, written}
 use Rattle.model.specs.declared.Sheet.{Sheet}
 use Rattle.model.specs.declared.Refusal.{Refusal}
 use Rattle.model.specs.declared.Refusal.the-variants.{TooFewPlaces}
 use Rattle.model.specs.declared.Outcome.{Outcome}
 use Rattle.model.specs.declared.Outcome.the-variants.{Refused}
-use Rattle.model.proofs.Passages.{rows-in-written, rows-of-passage, passage-refused, passage-too-few-places, passage-runs}
+use Rattle.model.proofs.Rows.{rows-in-written}
+use Rattle.model.proofs.Passages.{rows-of-passage, passage-refused, passage-too-few-places, passage-runs}
 use Rattle.model.proofs.Trusted.{passage-trusted}
-use Rattle.passage.specs.Promise.{Kept, TrustedRows}
+use Rattle.passage.specs.Promise.{TrustedRows}
 
 module _ (sheet : Sheet) (buffer : List ℤ) where
   -- no row is written, and the buffer is as it was
-  kept-before-steps : (r : Refusal) → passage sheet (length buffer) ≡ refused r 0 → Kept sheet buffer buffer (Refused r 0)
+  kept-before-steps : (r : Refusal) → passage sheet (length buffer) ≡ refused r 0 → Kept (passage sheet (length buffer)) buffer buffer (Refused r 0)
   unfolding refused written places
   kept-before-steps r e = record { answer = rw e; buffer = rw e }
 
-  pub kept-refused : {r : Refusal} → sheetVerdict sheet ≡ refuses r → Kept sheet buffer buffer (Refused r 0)
+  pub kept-refused : {r : Refusal} → sheetVerdict sheet ≡ refuses r → Kept (passage sheet (length buffer)) buffer buffer (Refused r 0)
   kept-refused {r} e = kept-before-steps r (passage-refused sheet (length buffer) e)
 
-  pub kept-too-few-places : sheetVerdict sheet ≡ passes → length buffer < placesNeeded sheet → Kept sheet buffer buffer (Refused TooFewPlaces 0)
+  pub kept-too-few-places : sheetVerdict sheet ≡ passes → length buffer < placesNeeded sheet → Kept (passage sheet (length buffer)) buffer buffer (Refused TooFewPlaces 0)
   kept-too-few-places e few = kept-before-steps TooFewPlaces (passage-too-few-places sheet (length buffer) e few)
 
-  pub kept-run : {outcome : Outcome} {after : List ℤ} → sheetVerdict sheet ≡ passes → placesNeeded sheet ≤ length buffer → Finished (termsOf sheet) (sheet .step) (sheet .tail) (sheet .tol) (sheet .steps) (startsOf sheet) buffer outcome after → Kept sheet buffer after outcome
+  pub kept-run : {outcome : Outcome} {after : List ℤ} → sheetVerdict sheet ≡ passes → placesNeeded sheet ≤ length buffer → Kept (run sheet) buffer after outcome → Kept (passage sheet (length buffer)) buffer after outcome
   unfolding run
   kept-run e room f =
       let runs = passage-runs sheet (length buffer) e room in
-      record { answer = rw runs (f .answer); buffer = rw runs (f .stored) }
+      record { answer = rw runs (f .answer); buffer = rw runs (f .buffer) }
 
-kept-trusted : (sheet : Sheet) {before after : List ℤ} {outcome : Outcome} → Kept sheet before after outcome → TrustedRows sheet after outcome
+kept-trusted : (sheet : Sheet) {before after : List ℤ} {outcome : Outcome} → Kept (passage sheet (length before)) before after outcome → TrustedRows sheet after outcome
 unfolding TrustedRows
 kept-trusted sheet {before} {after} {outcome} k =
     let rows = rows-of-passage sheet (length before) in
     rw (k .answer, k .buffer, ← (rows .count), rows-in-written (rows .wide) before) (passage-trusted sheet (length before))
 
-kept-gives : (sheet : Sheet) {before after : List ℤ} {outcome : Outcome} → Kept sheet before after outcome → Gives outcome (result (passage sheet (length before) .outcome)) (refusedStep (passage sheet (length before) .outcome))
+kept-gives : (sheet : Sheet) {before after : List ℤ} {outcome : Outcome} → Kept (passage sheet (length before)) before after outcome → Gives outcome (result (passage sheet (length before) .outcome)) (refusedStep (passage sheet (length before) .outcome))
 kept-gives sheet k = record { result-is = ap result (k .answer); step-is = ap refusedStep (k .answer) }
 
 -- all that a passage promises
-pub promised : (sheet : Sheet) {before after : List ℤ} {outcome : Outcome} → Kept sheet before after outcome → Kept sheet before after outcome × (TrustedRows sheet after outcome × Gives outcome (result (passage sheet (length before) .outcome)) (refusedStep (passage sheet (length before) .outcome)))
+pub promised : (sheet : Sheet) {before after : List ℤ} {outcome : Outcome} → Kept (passage sheet (length before)) before after outcome → Kept (passage sheet (length before)) before after outcome × (TrustedRows sheet after outcome × Gives outcome (result (passage sheet (length before) .outcome)) (refusedStep (passage sheet (length before) .outcome)))
 promised sheet k = (k, (kept-trusted sheet k, kept-gives sheet k))

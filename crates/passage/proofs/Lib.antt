@@ -1,4 +1,3 @@
-pub mod Rows
-pub mod Steps
-pub mod Counts
-pub mod Kept
+mod Counts
+mod Kept
+mod Steps

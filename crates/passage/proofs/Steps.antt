@@ -1,37 +1,35 @@
--- What the code's answer to a step says of the step by the definition. Assumes nothing.
+-- What the code's answer to a step says of the step by the definition, and one step of a sheet. Assumes nothing.
 use Prim.Native.Nat.{ℕ, _≤_, _<_}
 use mathlib.Core.Path.{_≡_, refl, ap, _∙_}
 use mathlib.Core.List.{List}
 use lib.IntN.{ℤ}
 use lib.ListN.{length, getD}
-use Rattle.model.specs.Step.{no-ball, Row, stepRow, newRow, degree}
-use Rattle.model.specs.Sheet.{passes, refuses, sheetVerdict}
-use Rattle.model.specs.Passage.{Advance, moves, stops, advance, termsOf}
+use Rattle.model.specs.Sheet.{passes, refuses, sheetVerdict, termsOf}
+use Rattle.model.specs.Step.{most-degree, no-ball, Row, stepRow, newRow, degree}
+use Rattle.model.specs.Rows.{ballIn, ballsIn, ballsOf}
+use Rattle.model.specs.Passage.{Advance, moves, stops, advanceNumber as numberMeant, advance}
 use Rattle.model.specs.declared.Ball.{Ball}
+use Rattle.model.specs.declared.Balls.{Balls}
 use Rattle.model.specs.declared.Sheet.{Sheet}
 use Rattle.model.specs.declared.Term.{Term}
 use Rattle.model.specs.declared.Refusal.{Refusal}
 use Rattle.model.proofs.Degree.{least-le}
 use Rattle.model.proofs.Ranges.{length-tabulate, getD-tabulate}
 use Rattle.model.proofs.Trusted.{all-tolerated, step-taken}
-use Rattle.taylor.specs.declared.step.Balls.{Balls}
+use Rattle.taylor.specs.Step.{answered, advanceNumber, advanceDegree, degreeOf, Numbered}
 use Rattle.taylor.specs.declared.step.Stepped.{Stepped}
 use Rattle.taylor.specs.declared.step.Advance.the-variants.{Moves, Stops}
-use Rattle.coefficients.specs.Layout.{ballIn, ballsIn}
-use Rattle.model.specs.Passage as means
-use Rattle.taylor.specs.Step.{answered, advanceNumber, advanceDegree, degreeOf, Numbered}
 use Rattle.taylor.proofs.LaidOut.{balls-laid-out, length-row}
+use Rattle.model.proofs.Rows.{length-balls}
 use Rattle.passage.specs.Promise.{stepOf}
+
+-- ---- a row or a refusal, where the definition's is
 
 -- the row of a degree and of balls in arrays
 abbrev pub rowOf : ℕ → ℕ → Balls → Row
-rowOf n degree balls = record { degree = degree; balls = ballsIn n (balls .values) (balls .radii) }
+rowOf n degree balls = record { degree = degree; balls = ballsOf n balls }
 
-pub length-balls : (n : ℕ) (balls : Balls) → length (ballsIn n (balls .values) (balls .radii)) ≡ n
-unfolding ballsIn
-length-balls n balls = length-tabulate n (ballIn (balls .values) (balls .radii))
-
--- the code's answer is a row or a refusal where the definition's is
+-- an answer with a degree: the definition's row has it, and has the answer's balls
 moves-to : (n : ℕ) (start : Balls) (next : Advance) (stepped : Stepped) (degree : ℕ) → ((row : Row) → next ≡ moves row → length (row .balls) ≡ n) → stepped ≡ answered start next → stepped .advance ≡ Moves degree → next ≡ moves (rowOf n degree (stepped .balls))
 unfolding answered
 moves-to n start (moves row) stepped degree full is e =
@@ -42,6 +40,7 @@ moves-to n start (stops r) stepped degree full is e =
     let told : stepped .advance ≡ Stops r = ap (λ (s : Stepped). s .advance) is in
     cc told
 
+-- an answer with a refusal: it is the definition's
 pub step-stops : (start : Balls) (next : Advance) (stepped : Stepped) (r : Refusal) → stepped ≡ answered start next → stepped .advance ≡ Stops r → next ≡ stops r
 unfolding answered
 step-stops start (moves row) stepped r is e =
@@ -53,33 +52,33 @@ step-stops start (stops refusal) stepped r is e =
     rw same
 
 module _ (terms : List Term) (H : ℤ) (limit tol : ℕ) where
-  pub step-moves : (n : ℕ) (start : Balls) (stepped : Stepped) (degree : ℕ) → stepped ≡ answered start (advance terms H limit tol (ballsIn n (start .values) (start .radii))) → stepped .advance ≡ Moves degree → advance terms H limit tol (ballsIn n (start .values) (start .radii)) ≡ moves (rowOf n degree (stepped .balls))
+  pub step-moves : (n : ℕ) (start : Balls) (stepped : Stepped) (degree : ℕ) → stepped ≡ answered start (advance terms H limit tol (ballsOf n start)) → stepped .advance ≡ Moves degree → advance terms H limit tol (ballsOf n start) ≡ moves (rowOf n degree (stepped .balls))
   step-moves n start stepped degree =
-      moves-to n start (advance terms H limit tol (ballsIn n (start .values) (start .radii))) stepped degree (λ row e. rw (step-taken terms H limit tol _ e .is-row) (length-row terms H limit _ ∙ length-balls n start))
+      moves-to n start (advance terms H limit tol (ballsOf n start)) stepped degree (λ row e. rw (step-taken terms H limit tol _ e .is-row) (length-row terms H limit _ ∙ length-balls n (start .values) (start .radii)))
 
-  pub degree-at-most : (balls : List Ball) {row : Row} → advance terms H limit tol balls ≡ moves row → row .degree ≤ 28
+  pub degree-at-most : (balls : List Ball) {row : Row} → advance terms H limit tol balls ≡ moves row → row .degree ≤ most-degree
   unfolding stepRow newRow degree
-  degree-at-most balls e = rw (step-taken terms H limit tol balls e .is-row) (least-le 28 _)
+  degree-at-most balls e = rw (step-taken terms H limit tol balls e .is-row) (least-le most-degree _)
 
   pub radii-at-most : (balls : List Ball) (n degree : ℕ) (row : Balls) → advance terms H limit tol balls ≡ moves (rowOf n degree row) → (i : ℕ) → i < n → getD (row .radii) i 0 ≤ tol
   unfolding ballsIn ballIn
   radii-at-most balls n degree row e i h =
-      let tolerated = all-tolerated tol (ballsIn n (row .values) (row .radii)) (step-taken terms H limit tol balls e .is-tolerable) in
+      let tolerated = all-tolerated tol (ballsOf n row) (step-taken terms H limit tol balls e .is-tolerable) in
       rw (getD-tabulate n (ballIn (row .values) (row .radii)) no-ball i h) at (tolerated .within i (rw length-tabulate h))
+
+-- ---- one step of a sheet
 
 -- an answer that is the definition's gives the definition's number and degree
 pub with-its-number : {stepped : Stepped} (start : Balls) (next : Advance) → stepped ≡ answered start next → (stepped ≡ answered start next) × Numbered (stepped .advance) next
-unfolding answered advanceNumber advanceDegree degreeOf means.advanceNumber
+unfolding answered advanceNumber advanceDegree degreeOf numberMeant
 with-its-number start (moves row) e = (e, rw e (record { number-is = refl; degree-is = refl }))
 with-its-number start (stops r) e = (e, rw e (record { number-is = refl; degree-is = refl }))
-
--- ---- one step of a sheet
 
 module _ (sheet : Sheet) (balls : List Ball) where
   pub step-of-refused : {r : Refusal} → sheetVerdict sheet ≡ refuses r → stepOf sheet balls ≡ stops r
   unfolding stepOf
   step-of-refused e = rw (e, stepOf)
 
-  pub step-of-passing : sheetVerdict sheet ≡ passes → stepOf sheet balls ≡ advance (termsOf sheet) (sheet .step) (sheet .tail) (sheet .tol) balls
+  pub step-of-passing : sheetVerdict sheet ≡ passes → stepOf sheet balls ≡ advance (termsOf sheet) (sheet .head .step) (sheet .head .tail) (sheet .head .tol) balls
   unfolding stepOf
   step-of-passing e = rw (e, stepOf)

@@ -1,29 +1,35 @@
--- What running a passage into a lent buffer promises, the three demands of document 01, and what one step of it comes to.
+-- What the steps of a passage ask, what is promised of its rows in a lent buffer, and what one step of it comes to.
+use Prim.Native.Nat.{_*_, _^_, _≤_, _<_}
 use mathlib.Core.List.{List}
-use mathlib.Core.Path.{_≡_}
 use lib.IntN.{ℤ}
 use lib.ListN.{length}
-use Rattle.model.specs.Sheet.{passes, refuses, sheetVerdict}
-use Rattle.model.specs.Passage.{Advance, stops, advance, termsOf, startsOf, passage, written, rowsIn, rowsWritten}
-use Rattle.model.specs.Trust.{Trusted}
+use Rattle.model.specs.Sheet.{most-steps, passes, refuses, sheetVerdict, termsOf}
+use Rattle.model.specs.Passage.{Advance, stops, advance, rowsWritten}
+use Rattle.model.specs.Rows.{width, rowsIn}
+use Rattle.model.specs.Trust.{TrustedOf}
 use Rattle.model.specs.declared.Ball.{Ball}
+use Rattle.model.specs.declared.Head.{Head}
+use Rattle.model.specs.declared.Term.{Term}
 use Rattle.model.specs.declared.Sheet.{Sheet}
 use Rattle.model.specs.declared.Outcome.{Outcome}
+use Rattle.taylor.specs.Step.{CanStep}
 
--- Demands 1 and 2: the outcome is the definition's, and so is every place of the buffer.
-pub record Kept (sheet : Sheet) (before after : List ℤ) (outcome : Outcome) : Type 0 where
-  pub answer : outcome ≡ passage sheet (length before) .outcome
-  pub buffer : after ≡ written (passage sheet (length before) .rows) before
+-- What the steps of a passage ask: what each step asks, and room for a row of each.
+pub record CanRun (head : Head) (terms : List Term) (rows : List ℤ) : Type 0 where
+  pub each : CanStep head terms
+  pub steps : head .steps ≤ most-steps
+  pub tol : head .tol < 2 ^ 63
+  pub room : head .steps * width (head .n) ≤ length rows
 
 -- Demand 3, of the rows as they stand in the buffer.
 unfoldable pub TrustedRows : Sheet → List ℤ → Outcome → Type 0
 TrustedRows sheet after outcome =
-    Trusted (termsOf sheet) (sheet .step) (sheet .tol) (startsOf sheet) (rowsIn (sheet .n) (rowsWritten sheet outcome) after)
+    TrustedOf sheet (rowsIn (sheet .head .n) (rowsWritten sheet outcome) after)
 
 -- One step of a sheet, from any values and radii: the refusal of its fields first, and then the step's own questions.
 unfoldable pub stepOf : Sheet → List Ball → Advance
 stepOf sheet balls =
     elim (sheetVerdict sheet) [
       | refuses r ↦ stops r
-      | passes ↦ advance (termsOf sheet) (sheet .step) (sheet .tail) (sheet .tol) balls
+      | passes ↦ advance (termsOf sheet) (sheet .head .step) (sheet .head .tail) (sheet .head .tol) balls
     ]

@@ -1,4 +1,126 @@
 // A passage given as numbers, run into a lent buffer, and one step of it: document 01, questions 3 to 6.
-mod layout;
-pub mod run;
-pub mod step;
+ghost use mathlib.Core.Path.{_≡_};
+ghost use Prim.Native.Nat.{_≤_};
+ghost use lib.ListN.{length};
+ghost use Rattle.model.specs.Sheet.{result, refusedStep, Gives, most-quantities, listed, startValue, startsOf};
+ghost use Rattle.model.specs.Rows.{ballsOf};
+ghost use Rattle.model.specs.Passage as passage;
+ghost use Rattle.taylor.specs.Step.{answered, Numbered};
+ghost use Rattle.passage.specs.Promise.{CanRun, TrustedRows, stepOf};
+use model::Balls;
+use model::Head;
+use model::MOST_QUANTITIES;
+use model::Outcome;
+use model::Refusal;
+use model::Sheet;
+use model::Start;
+use model::Terms;
+use products::PLACES;
+use rows::put_row;
+use rows::width;
+use taylor::Advance;
+use taylor::Stepped;
+use taylor::sums_of;
+use taylor::take_step;
+use verdict::verdict;
+
+// A start's number of units. Where there is no reading the sheet is refused before this is asked.
+fn start_value(start: Start) -> i64
+    ensures { λ r. ⌜ r ≡ startValue start ⌝ }
+{
+    match start {
+        Start::Reading(value) => value,
+        Start::Missing => 0,
+    }
+}
+
+// The values and radii that the first step starts from.
+fn starts_of(sheet: Sheet) -> Balls
+    requires { ⌜ sheet .head .n ≤ most-quantities ⌝ }
+    ensures { λ r. ⌜ ballsOf (sheet .head .n) r ≡ startsOf sheet ⌝ }
+{
+    let mut values = [0i64; MOST_QUANTITIES];
+    let mut radii = [0u64; MOST_QUANTITIES];
+    let n = sheet.head.n;
+    let mut i = 0;
+    while i < n {
+        let quantity = sheet.quantities[i];
+        let start = quantity.start;
+        values[i] = start_value(start);
+        radii[i] = quantity.radius;
+        i += 1;
+    }
+    Balls { values, radii }
+}
+
+// The steps of a passage from `start`, each row into the buffer after the last. Z0, Z1 and Z2 of the terms, and the table
+// of coefficients that each step works in, are made once for all of them.
+fn run_steps(head: Head, terms: Terms, start: Balls, rows: &mut [i64]) -> Outcome
+    requires { ⌜ CanRun head (listed terms) (now rows) ⌝ }
+    ensures { λ r. ⌜ passage.Kept (passage.follow (listed terms) (head .step) (head .tail) (head .tol) (head .steps) 1 (ballsOf (head .n) start)) (now (rows .entry)) (now (rows .exit)) r ⌝ }
+{
+    let n = head.n;
+    let steps = head.steps;
+    let sums = sums_of(n, terms);
+    let mut values = [0i64; PLACES];
+    let mut reaches = [0u64; PLACES];
+    let mut balls = start;
+    let mut done = 0;
+    while done < steps {
+        let stepped = take_step(head, terms, &sums, balls, &mut values, &mut reaches);
+        let advance = stepped.advance;
+        balls = stepped.balls;
+        match advance {
+            Advance::Stops(refusal) => {
+                let number = done + 1;
+                return Outcome::Refused(refusal, number);
+            }
+            Advance::Moves(degree) => {
+                put_row(rows, n, done, degree, balls);
+            }
+        }
+        done += 1;
+    }
+    Outcome::Accepted
+}
+
+// Runs the passage of a sheet given as numbers. Refused by 3, 4 or 5, it leaves the buffer as it is; refused at a step, it
+// has written the rows before that step.
+pub fn run(sheet: Sheet, rows: &mut [i64]) -> Outcome
+    ensures kept { λ r. ⌜ passage.Kept (passage.passage sheet (length (now (rows .entry)))) (now (rows .entry)) (now (rows .exit)) r ⌝ }
+    ensures trusted { λ r. ⌜ TrustedRows sheet (now (rows .exit)) r ⌝ }
+    ensures numbered { λ r. ⌜ Gives r (result (passage.passage sheet (length (now (rows .entry))) .outcome)) (refusedStep (passage.passage sheet (length (now (rows .entry))) .outcome)) ⌝ }
+{
+    let refused = verdict(sheet);
+    if let Outcome::Refused(_, _) = refused {
+        return refused;
+    }
+    let head = sheet.head;
+    if rows.len() < head.steps * width(head.n) {
+        return Outcome::Refused(Refusal::TooFewPlaces, 0);
+    }
+    let terms = sheet.terms;
+    let start = starts_of(sheet);
+    run_steps(head, terms, start, rows)
+}
+
+// One step of the sheet from `start`. A sheet that is refused by 3 or 4 gives that refusal, and a refused step leaves the
+// values and radii that it started from.
+pub fn step(sheet: Sheet, start: Balls) -> Stepped
+    ensures whole { λ r. ⌜ r ≡ answered start (stepOf sheet (ballsOf (sheet .head .n) start)) ⌝ }
+    ensures numbered { λ r. ⌜ Numbered (r .advance) (stepOf sheet (ballsOf (sheet .head .n) start)) ⌝ }
+{
+    let refused = verdict(sheet);
+    if let Outcome::Refused(refusal, _) = refused {
+        return Stepped {
+            advance: Advance::Stops(refusal),
+            balls: start,
+        };
+    }
+    let head = sheet.head;
+    let terms = sheet.terms;
+    let sums = sums_of(head.n, terms);
+    let mut values = [0i64; PLACES];
+    let mut reaches = [0u64; PLACES];
+    take_step(head, terms, &sums, start, &mut values, &mut reaches)
+}

@@ -30,6 +30,7 @@ fn read_input(sheet: &mut [u8]) -> Input {
     Input::Bytes(count)
 }
 
+// Reads a sheet, and prints its answer.
 fn main() {
     let mut sheet = [0u8; SHEET_LENGTH];
     let mut text = [0u8; TEXT_LENGTH];

@@ -1,7 +1,7 @@
 -- `answer::answer_input` meets its contract. Assumes nothing.
 use Prim.Native.Nat.{_≤_, _<_}
 use lib.ListN.{length, take}
-use Rattle.model.specs.Reading.{most-bytes}
+use Rattle.model.specs.Sheet.{most-bytes}
 use Rattle.answer.proofs.Answered.{text-trusted, alike-by-front}
 use borrow.Author.Needs.{needs}
 use Rattle.answer.proofs.answer_input.Statement.{statement}
@@ -9,7 +9,6 @@ use Rattle.answer.proofs.answer_input.Tie as tie
 
 -- there is room for a byte more than a sheet may have
 room : (c : tie.After-answer-sheet) → most-bytes < length (c .before .before .before .before .args .sheet .now)
-unfolding most-bytes
 room c = search needs
 
 -- and in the text for every answer
@@ -18,10 +17,10 @@ whole c = search needs
 
 returns : tie.Need-returns
 returns c =
-    let s = c .before .before .before .before in
-    let bytes = take (s .args .count) (s .args .sheet .now) in
+    let args = c .before .before .before .before .args in
+    let bytes = take (args .count) (args .sheet .now) in
     let printed = rw (c .before .before .front .ensures) at (c .answer-sheet .ensures .0) in
-    (printed, (whole c, (text-trusted bytes printed, λ input e. alike-by-front (length (s .args .sheet .now)) input bytes (room c) e)))
+    (printed, (whole c, (text-trusted bytes printed, λ input e. alike-by-front (length (args .sheet .now)) input bytes (room c) e)))
 
 front-requires : tie.Need-front-requires
 front-requires c κs = search needs

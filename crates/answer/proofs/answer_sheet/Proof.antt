@@ -4,8 +4,9 @@ use Prim.Native.Nat.{ℕ, _*_}
 use mathlib.Core.List.{List}
 use mathlib.Core.Path.{refl, subst}
 use borrow.Author.Tests.{leb-true}
-use Rattle.model.specs.Passage.{width}
-use Rattle.answer.specs.Text.{Printed}
+use Rattle.model.specs.Sheet.{most-quantities, most-steps}
+use Rattle.model.specs.Rows.{width}
+use Rattle.decimal.specs.Pieces.{Printed}
 use Rattle.answer.proofs.Answered.{enough-is-answer, text-trusted}
 use borrow.Author.Needs.{needs}
 use Rattle.answer.proofs.answer_sheet.Statement.{statement}
@@ -14,10 +15,10 @@ use Rattle.answer.proofs.answer_sheet.Tie as tie
 returns : tie.Need-returns
 unfolding width
 returns c =
-    let p = c .before .before .before in
-    let a = p .before .before .before .before .before in
-    let printed = subst (λ (text : List ℕ). Printed (a .args .text .now) text (p .planner-answer .result) (p .planner-answer .last .1 .1 .0)) (enough-is-answer (a .args .sheet .now) _ (leb-true (400 * width 8) _ refl)) (p .planner-answer .ensures .0) in
-    (printed, (p .planner-answer .ensures .1 .1 .0, text-trusted (a .args .sheet .now) printed))
+    let answered = c .before .before .before in
+    let args = answered .before .before .before .before .before .args in
+    let printed = subst (λ (text : List ℕ). Printed (args .text .now) text (answered .planner-answer .result) (answered .planner-answer .last .1 .1 .0)) (enough-is-answer (args .sheet .now) _ (leb-true (most-steps * width most-quantities) _ refl)) (answered .planner-answer .ensures .0) in
+    (printed, (answered .planner-answer .ensures .1 .1 .0, text-trusted (args .sheet .now) printed))
 
 slice-aggregate-planner-answer : tie.Need-slice-aggregate-planner-answer
 slice-aggregate-planner-answer c = search needs

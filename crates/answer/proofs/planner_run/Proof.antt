@@ -8,9 +8,9 @@ use Rattle.answer.proofs.planner_run.Tie as tie
 
 returns : tie.Need-returns
 returns c =
-    let r = c .before .before .before in
-    let ran = r .run-sheet .ensures in
-    (c .put-summary .ensures ∙ ap summaryOf (ran .answer), (ran .buffer, ran-trusted (r .before .before .before .args .sheet .now) ran))
+    let run = c .before .before .before in
+    let ran = run .run-sheet .ensures in
+    (c .put-summary .ensures ∙ ap summaryOf (ran .answer), (ran .buffer, ran-trusted (run .before .before .before .args .sheet .now) ran))
 
 run-sheet-requires : tie.Need-run-sheet-requires
 run-sheet-requires c κs = search needs

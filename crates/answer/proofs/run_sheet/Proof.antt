@@ -7,15 +7,17 @@ use Rattle.answer.proofs.run_sheet.Tie as tie
 
 returns : tie.Need-returns
 returns c =
-    let r = c .before .before .before in
-    ran-refused (r .before .before .args .sheet .now) (r .read .ensures .0) (r .before .before .args .rows .now) (c .enum-told .given .1)
+    let read = c .before .before .before in
+    let args = read .before .before .args in
+    ran-refused (args .sheet .now) (read .read .ensures .0) (args .rows .now) (c .enum-told .given .1)
 
 returns-2 : tie.Need-returns-2
 returns-2 c =
-    let n = c .before .before in
-    let told = n .before .before in
-    let r = told .before .before .before in
-    rw (c .rows-written .ensures) (ran-accepted (r .before .before .args .sheet .now) (r .read .ensures .0) (r .before .before .args .rows .now) (told .enum-told2 .given .1) (n .run .ensures .0 .answer) (n .run .ensures .0 .buffer))
+    let run = c .before .before in
+    let accepted = run .before .before in
+    let read = accepted .before .before .before in
+    let args = read .before .before .args in
+    rw (c .rows-written .ensures) (ran-accepted (args .sheet .now) (read .read .ensures .0) (args .rows .now) (accepted .enum-told2 .given .1) (run .run .ensures .0 .answer) (run .run .ensures .0 .buffer))
 
 read-requires : tie.Need-read-requires
 read-requires c κs = search needs

@@ -1,4 +1,4 @@
--- `passage::layout::starts_of` meets its contract. The loop's invariant: the arrays begin with the starts passed.
+-- `passage::starts_of` meets its contract. The loop's invariant: the arrays begin with the starts passed.
 -- Assumes nothing.
 use Prim.Native.Nat.{_-_, _≤_}
 use mathlib.Core.Path.{refl}
@@ -6,24 +6,37 @@ use native.Mathlib.Omega.{arith}
 use lib.IntN.{pos}
 use lib.ListN.{getD}
 use mir.Facts.{toZ-ofZ}
-use Rattle.model.specs.Sheet.{no-quantity}
-use Rattle.model.specs.Passage.{startBall, startsOf}
+use Rattle.model.specs.Sheet.{most-quantities, no-quantity, startBall, startsOf}
+use Rattle.model.specs.Rows.{ballIn, ballsIn}
 use Rattle.model.proofs.Ranges.{tabulate-equal}
 use Rattle.model.proofs.Stores.{Begins, begins-with-none, begins-with-one-more}
-use Rattle.coefficients.specs.Layout.{ballIn, ballsIn}
 use borrow.Author.Needs.{needs}
-use Rattle.passage.proofs.layout.starts_of.Statement.{statement}
-use Rattle.passage.proofs.layout.starts_of.Tie as tie
+use Rattle.passage.proofs.starts_of.Statement.{statement}
+use Rattle.passage.proofs.starts_of.Tie as tie
 
 abbrev Inv-loop : tie.InvT-loop
 Inv-loop sheet values₀ radii₀ n i₀ values radii i =
-    (i ≤ n) × Begins (λ k. startBall (getD (sheet .quantity) k no-quantity) .value) (pos 0) 8 i values × Begins (λ k. startBall (getD (sheet .quantity) k no-quantity) .radius) 0 8 i radii
+    Begins (λ k. startBall (getD (sheet .quantities) k no-quantity) .value) (pos 0) most-quantities i values × Begins (λ k. startBall (getD (sheet .quantities) k no-quantity) .radius) 0 most-quantities i radii × (i ≤ n)
 
 abbrev μ-loop : tie.MeasureT-loop
 μ-loop sheet values₀ radii₀ n i₀ values radii i = n - i
 
 loop-holds : tie.Need-loop-holds Inv-loop μ-loop
-loop-holds c = (omega arith, begins-with-none refl, begins-with-none refl)
+loop-holds c = (begins-with-none refl, begins-with-none refl, omega arith)
+
+loop-again : tie.Need-loop-again Inv-loop μ-loop
+unfolding startBall no-quantity
+loop-again c =
+    let turn = c .before .before .before .loop in
+    (rw (toZ-ofZ (record { sfits = c .start-value .ok }), c .start-value .ensures) (begins-with-one-more (turn .inv .0) (omega arith)), begins-with-one-more (turn .inv .1) (omega arith), omega arith)
+
+returns : tie.Need-returns Inv-loop μ-loop
+unfolding ballsIn ballIn startsOf startBall
+returns c =
+    let begun = c .before .loop .inv in
+    tabulate-equal (c .before .before .args .t1 .head .n) _ _ (λ i h. λ t. record { value = begun .0 .entry i (omega arith) t; radius = begun .1 .entry i (omega arith) t })
+
+-- ---- what fits
 
 mul-quantity : tie.Need-mul-quantity Inv-loop μ-loop
 mul-quantity c = omega arith
@@ -51,18 +64,6 @@ add-i c = omega arith
 
 loop-less : tie.Need-loop-less Inv-loop μ-loop
 loop-less c = omega arith
-
-loop-again : tie.Need-loop-again Inv-loop μ-loop
-unfolding startBall no-quantity
-loop-again c =
-    let loop = c .before .before .before .loop in
-    (omega arith, rw (toZ-ofZ (record { sfits = c .start-value .ok }), c .start-value .ensures) (begins-with-one-more (loop .inv .1) (omega arith)), begins-with-one-more (loop .inv .2) (omega arith))
-
-returns : tie.Need-returns Inv-loop μ-loop
-unfolding ballsIn ballIn startsOf startBall
-returns c =
-    let begun = c .before .loop .inv in
-    tabulate-equal (c .before .before .args .t1 .n) _ _ (λ i h. λ t. record { value = begun .1 .entry i (omega arith) t; radius = begun .2 .entry i (omega arith) t })
 
 pub starts-of-spec : {M : Type 1} → statement M
 starts-of-spec =

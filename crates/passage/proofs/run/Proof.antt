@@ -1,0 +1,108 @@
+-- `passage::run` meets its contract. Assumes nothing.
+use mathlib.Core.List.{List}
+use mathlib.Core.Path.{_≡_}
+use native.Mathlib.Omega.{arith}
+use lib.IntN.{ℤ}
+use lib.ListN.{length}
+use Rattle.model.specs.declared.Outcome.{Outcome}
+use Rattle.model.specs.declared.Refusal.{Refusal}
+use Rattle.model.specs.declared.Sheet.{Sheet}
+use Rattle.model.specs.Sheet.{most, passes, refuses, sheetVerdict, verdictOutcome, termsOf}
+use Rattle.model.specs.Passage.{placesNeeded, run, passage, Kept}
+use Rattle.model.specs.Rows.{width}
+use Rattle.model.proofs.Rows.{rows-fit}
+use Rattle.verdict.proofs.Verdicts.{refuses-as}
+use Rattle.model.proofs.SheetBounds.{Counts}
+use Rattle.passage.proofs.Counts.{passed, can-step}
+use Rattle.passage.proofs.Kept.{kept-refused, kept-too-few-places, kept-run, promised}
+use borrow.Author.Needs.{needs}
+use Rattle.passage.proofs.run.Statement.{statement}
+use Rattle.passage.proofs.run.Tie as tie
+
+-- the outcome of a verdict that refuses
+verdict-kept : (sheet : Sheet) (buffer : List ℤ) {given : Outcome} {r : Refusal} → given ≡ verdictOutcome (sheetVerdict sheet) → sheetVerdict sheet ≡ refuses r → Kept (passage sheet (length buffer)) buffer buffer given
+unfolding verdictOutcome
+verdict-kept sheet buffer e refused = rw (e, refused) (kept-refused sheet buffer refused)
+
+-- the sheet's counts, where its verdict is not a refusal
+accepted : (c : tie.After-enum-told2) → Counts (c .before .before .before .args .sheet) × (sheetVerdict (c .before .before .before .args .sheet) ≡ passes)
+accepted c = passed (c .before .before .before .args .sheet) (c .before .before .verdict .ensures .0) (c .enum-told2 .given .1)
+
+returns : tie.Need-returns
+returns c =
+    let args = c .before .before .before .args in
+    let verdict = c .before .before .verdict in
+    let refused = refuses-as (sheetVerdict (args .sheet)) (verdict .ensures .0) (c .enum-told .given .1) in
+    promised (args .sheet) (verdict-kept (args .sheet) (args .rows .now) (verdict .ensures .0) refused)
+
+returns-2 : tie.Need-returns-2
+unfolding placesNeeded
+returns-2 c =
+    let told = c .before .before .before .before in
+    let args = told .before .before .before .args in
+    promised (args .sheet) (kept-too-few-places (args .sheet) (args .rows .now) (accepted told .1) (rw (c .before .before .width .ensures) at (c .if1 .taken)))
+
+returns-3 : tie.Need-returns-3
+unfolding placesNeeded termsOf run
+returns-3 c =
+    let room = c .before .before .before .before .before in
+    let told = room .before .before .before .before in
+    let args = told .before .before .before .args in
+    let finished = rw (c .before .before .before .starts-of .ensures) at (c .before .run-steps .ensures) in
+    promised (args .sheet) (kept-run (args .sheet) (args .rows .now) (accepted told .1) (rw (room .before .before .width .ensures) at (room .if1 .left)) finished)
+
+-- ---- what the calls ask, and what fits
+
+verdict-requires : tie.Need-verdict-requires
+verdict-requires c κs = search needs
+
+enum-told : tie.Need-enum-told
+enum-told c = search needs
+
+enum-told-2 : tie.Need-enum-told-2
+enum-told-2 c = search needs
+
+width-requires : tie.Need-width-requires
+width-requires c κs = accepted (c .before) .0 .n-high
+
+mul-if1 : tie.Need-mul-if1
+unfolding width
+mul-if1 c =
+    let head = c .before .before .before .before .before .before .args .sheet .head in
+    let counts = accepted (c .before .before .before) .0 in
+    rw (c .before .width .ensures) (omega (arith, rows-fit (head .steps) (head .n) (counts .steps-high) (counts .n-high)))
+
+starts-of-requires : tie.Need-starts-of-requires
+starts-of-requires c κs = accepted (c .before .before .before .before .before) .0 .n-high
+
+run-steps-requires : tie.Need-run-steps-requires
+unfolding most
+run-steps-requires c κs =
+    let room = c .before .before .before in
+    let told = room .before .before .before .before in
+    let p = accepted told in
+    record {
+      each = can-step (told .before .before .before .args .sheet) (p .0) (p .1);
+      steps = p .0 .steps-high;
+      tol = omega (arith, p .0 .tol-high);
+      room = rw (room .before .before .width .ensures) at (room .if1 .left);
+    }
+
+same-length : tie.Need-same-length
+same-length c = search needs
+
+pub run-spec : {M : Type 1} → statement M
+run-spec =
+    tie.close
+    (tie.spec
+    verdict-requires
+    enum-told
+    returns
+    enum-told-2
+    width-requires
+    mul-if1
+    returns-2
+    starts-of-requires
+    run-steps-requires
+    same-length
+    returns-3)

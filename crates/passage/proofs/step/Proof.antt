@@ -1,0 +1,69 @@
+-- `passage::step` meets its contract. Assumes nothing.
+use mathlib.Core.Path.{_≡_}
+use Rattle.model.specs.Sheet.{passes, sheetVerdict, listed, termsOf}
+use Rattle.coefficients.proofs.Filling.{blank-usable}
+use Rattle.taylor.specs.Ratio.{SumsOf}
+use Rattle.taylor.specs.Step.{answered}
+use Rattle.verdict.proofs.Verdicts.{refuses-as}
+use Rattle.model.proofs.SheetBounds.{Counts}
+use Rattle.passage.proofs.Counts.{passed, can-step}
+use Rattle.passage.proofs.Steps.{with-its-number, step-of-refused, step-of-passing}
+use borrow.Author.Needs.{needs}
+use Rattle.passage.proofs.step.Statement.{statement}
+use Rattle.passage.proofs.step.Tie as tie
+
+-- the sheet's counts, where its verdict is not a refusal
+accepted : (c : tie.After-enum-told) → Counts (c .before .before .before .args .sheet) × (sheetVerdict (c .before .before .before .args .sheet) ≡ passes)
+accepted c = passed (c .before .before .before .args .sheet) (c .before .before .verdict .ensures .0) (c .enum-told .given .1)
+
+-- the sums are those of the sheet's terms
+sums-are : (c : tie.After-sums-of) →
+    let sheet = c .before .before .before .before .before .before .args .sheet in
+    SumsOf (listed (sheet .terms)) (sheet .head .n) (c .sums-of .result)
+sums-are c = c .sums-of .ensures
+
+returns : tie.Need-returns
+unfolding answered
+returns c =
+    let args = c .before .before .before .before .args in
+    let refused = refuses-as (sheetVerdict (args .sheet)) (c .before .before .before .verdict .ensures .0) (c .before .refused .given .1) in
+    with-its-number (args .start) _ (rw (step-of-refused (args .sheet) _ refused))
+
+returns-2 : tie.Need-returns-2
+unfolding termsOf
+returns-2 c =
+    let args = c .before .before .before .before .before .before .before .before .before .before .args in
+    with-its-number (args .start) _ (rw (step-of-passing (args .sheet) _ (accepted (c .before .before .before .before .before .before .before) .1)) (c .take-step .ensures .0))
+
+-- ---- what the calls ask, and what fits
+
+verdict-requires : tie.Need-verdict-requires
+verdict-requires c κs = search needs
+
+enum-known-refused : tie.Need-enum-known-refused
+enum-known-refused c = search needs
+
+enum-told : tie.Need-enum-told
+enum-told c = search needs
+
+sums-of-requires : tie.Need-sums-of-requires
+sums-of-requires c κs =
+    let p = accepted (c .before .before) in
+    (p .0 .n-high, record { few = p .0 .terms-high; in-total = can-step (c .before .before .before .before .before .args .sheet) (p .0) (p .1) .bounds .total })
+
+take-step-requires : tie.Need-take-step-requires
+take-step-requires c κs =
+    let p = accepted (c .before .before .before .before .before .before) in
+    (can-step (c .before .before .before .before .before .before .before .before .before .args .sheet) (p .0) (p .1), (sums-are (c .before .before .before), blank-usable _))
+
+pub step-spec : {M : Type 1} → statement M
+step-spec =
+    tie.close
+    (tie.spec
+    verdict-requires
+    enum-known-refused
+    returns
+    enum-told
+    sums-of-requires
+    take-step-requires
+    returns-2)
