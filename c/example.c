@@ -15,11 +15,11 @@ static uint8_t text[PLANNER_TEXT_LENGTH];
 static void print_rows(const uint64_t *summary)
 {
     size_t n = summary[PLANNER_QUANTITIES];
-    const int64_t *row = rows;
-    for (size_t j = 0; j < summary[PLANNER_ROWS]; j++, row += 2 * n + 1) {
-        printf("row=%zu\ndegree=%" PRId64 "\n", j + 1, row[0]);
-        for (size_t i = 1; i <= n; i++)
-            printf("value=%" PRId64 "\nradius=%" PRId64 "\n", row[i], row[n + i]);
+    for (size_t j = 0; j < summary[PLANNER_ROWS]; j++) {
+        printf("row=%zu\ndegree=%" PRId64 "\n", j + 1, rows[PLANNER_DEGREE_PLACE(n, j)]);
+        for (size_t i = 0; i < n; i++)
+            printf("value=%" PRId64 "\nradius=%" PRId64 "\n",
+                   rows[PLANNER_VALUE_PLACE(n, j, i)], rows[PLANNER_RADIUS_PLACE(n, j, i)]);
     }
     printf("result=%" PRIu64 "\nat=%" PRIu64 "\n", summary[PLANNER_RESULT], summary[PLANNER_AT]);
 }

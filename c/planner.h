@@ -28,12 +28,21 @@ extern "C" {
 #define PLANNER_TEXT_LENGTH 204454
 
 /*
+ * A row of n quantities in the rows buffer: its degree, its n values and its n radii, in units. The rows stand one after
+ * another; row j, from 0, has its degree, and the value and the radius of quantity i, from 0, at these places.
+ */
+#define PLANNER_ROW_WIDTH(n) (2 * (n) + 1)
+#define PLANNER_DEGREE_PLACE(n, j) ((j) * PLANNER_ROW_WIDTH(n))
+#define PLANNER_VALUE_PLACE(n, j, i) (PLANNER_DEGREE_PLACE(n, j) + 1 + (i))
+#define PLANNER_RADIUS_PLACE(n, j, i) (PLANNER_DEGREE_PLACE(n, j) + 1 + (n) + (i))
+
+/*
  * What both functions are given:
  *
  *   sheet, sheet_length   the bytes of the sheet; they need not end in a zero
- *   rows, rows_length     places for the rows: after the call, steps rows of 2n + 1 places each (the degree, n values,
- *                         n radii, in units), or those before a refused step; every other place is as it was.
- *                         With fewer places than the passage needs the answer is refusal 5
+ *   rows, rows_length     places for the rows: after the call, steps rows of PLANNER_ROW_WIDTH(n) places each, or those
+ *                         before a refused step; every other place is as it was. With fewer places than the passage
+ *                         needs the answer is refusal 5
  *
  * No two of the arrays may overlap, and no pointer may be null, even with the length 0.
  */

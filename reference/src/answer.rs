@@ -1,6 +1,7 @@
 //! The answer's text: the rows, then `result` and `at`.
 
 use crate::passage::{self, Refused};
+use crate::rows;
 use crate::sheet;
 use std::fmt::Write;
 
@@ -49,14 +50,13 @@ pub fn answer(sheet: &[u8], rows: &mut [i64]) -> String {
 
 /// The text of the rows written and of what became of the passage.
 pub fn text(summary: &Summary, rows: &[i64]) -> String {
-    let n = summary.quantities as usize;
-    let width = 2 * n + 1;
+    let width = rows::width(summary.quantities as usize);
     let rows = &rows[..summary.rows as usize * width];
     let mut text = String::with_capacity(32 + 18 * rows.len());
     let mut print = || {
         for (row, number) in rows.chunks_exact(width).zip(1..) {
-            let (values, radii) = row[1..].split_at(n);
-            writeln!(text, "row={number}\ndegree={}", row[0])?;
+            let (degree, values, radii) = rows::parts(row);
+            writeln!(text, "row={number}\ndegree={degree}")?;
             for (value, radius) in values.iter().zip(radii) {
                 writeln!(text, "value={value}\nradius={radius}")?;
             }

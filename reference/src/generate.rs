@@ -4,6 +4,7 @@
 use crate::passage;
 use crate::random::Random;
 use crate::rounding::SCALE_SIZE;
+use crate::rows;
 use crate::sheet::{
     COEF, LIMIT, MOST_BYTES, QUANTITIES, RADIUS, START, STEP, STEPS, Sheet, Start, TAIL, TERMS,
     TOL, Term, read,
@@ -211,11 +212,10 @@ fn at_the_ratio(random: &mut Random) -> Sheet {
 /// A tolerance that is the widest radius up to some row, or one unit less.
 fn at_the_tolerance(random: &mut Random) -> Sheet {
     let mut sheet = calm(random);
-    let n = sheet.starts.len();
     let rows = written(&sheet);
     if !rows.is_empty() {
         let upto = 1 + random.below(rows.len());
-        let radii = rows[..upto].iter().flat_map(|row| row[n + 1..].iter());
+        let radii = rows[..upto].iter().flat_map(|row| rows::parts(row).2);
         let widest = radii.copied().fold(0, i64::max);
         sheet.tol = (widest - random.even(0..=1)).clamp(1, LIMIT);
     }

@@ -9,6 +9,7 @@ pub mod generate;
 pub mod passage;
 pub mod random;
 pub mod rounding;
+pub mod rows;
 pub mod sheet;
 pub mod step;
 pub mod timing;

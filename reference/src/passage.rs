@@ -1,5 +1,6 @@
 //! A passage: step after step from the start, each row into a lent buffer.
 
+use crate::rows;
 use crate::sheet::{MOST_QUANTITIES, Refusal, Sheet};
 use crate::step::{self, State};
 
@@ -23,9 +24,10 @@ pub fn run(sheet: &Sheet, rows: &mut [i64]) -> Result<(), Refused> {
     for (at, place) in (1..=sheet.steps as usize).zip(places) {
         let row = step::advance(sheet, &state).map_err(|refusal| Refused { refusal, at })?;
         state = row.state;
-        place[0] = row.degree as i64;
-        place[1..=n].copy_from_slice(&state.values[..n]);
-        for (place, &radius) in place[n + 1..].iter_mut().zip(&state.radii) {
+        let (degree, values, radii) = rows::parts_mut(place);
+        *degree = row.degree as i64;
+        values.copy_from_slice(&state.values[..n]);
+        for (place, &radius) in radii.iter_mut().zip(&state.radii) {
             *place = radius as i64;
         }
     }

@@ -1,5 +1,6 @@
 //! The sheet: its fields, their ranges, and reading it line by line.
 
+use crate::rows;
 use std::ops::RangeInclusive;
 
 /// The most bytes a sheet may have.
@@ -22,7 +23,7 @@ pub const TERMS: RangeInclusive<i64> = 0..=32;
 pub const COEF: RangeInclusive<i64> = -(1 << 28)..=1 << 28;
 
 /// The places that suffice for every sheet's rows.
-pub const MOST_PLACES: usize = *STEPS.end() as usize * (2 * MOST_QUANTITIES + 1);
+pub const MOST_PLACES: usize = *STEPS.end() as usize * rows::width(MOST_QUANTITIES);
 
 /// Why a sheet or a passage is refused, by document 01's numbers.
 #[derive(Clone, Copy, Debug, PartialEq, Eq)]
@@ -65,9 +66,9 @@ pub struct Sheet {
 }
 
 impl Sheet {
-    /// The places that one row takes: its degree, n values, n radii.
+    /// The places that one row takes.
     pub fn row_places(&self) -> usize {
-        2 * self.starts.len() + 1
+        rows::width(self.starts.len())
     }
 
     /// The places that all rows take.

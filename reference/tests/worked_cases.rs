@@ -2,7 +2,7 @@
 
 use reference::answer::answer;
 use reference::passage::{Refused, run};
-use reference::sheet::{Refusal, Sheet, Start, Term, read};
+use reference::sheet::{MOST_PLACES, Refusal, Sheet, Start, Term, read};
 
 const CASE_A: &str = "n=1\nsteps=1\nstep=4194304\ntail=349526\ntol=349534\nstart=16777216\nradius=0\n\
     terms=1\nto=1\ncoef=16777216\nfirst=1\nsecond=1\n";
@@ -19,7 +19,7 @@ fn edited(edits: &[(&str, &str)]) -> String {
 }
 
 fn answer_of(sheet: &str) -> String {
-    answer(sheet.as_bytes(), &mut [MARK; 400 * 17])
+    answer(sheet.as_bytes(), &mut [MARK; MOST_PLACES])
 }
 
 /// The answer of one row for one quantity.
