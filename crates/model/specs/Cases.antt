@@ -164,6 +164,15 @@ cases =
     ∷ alone (sheetText "1" "4194304" "349526" "349534" "16777216" "0" square)
     ∷ garbled 4096 2
     ∷ garbled 4097 1
+    -- a line: its spelling and its line feed decide before its range, and it before the lines below; `none` is a start's alone
+    ∷ prints (sheetText "1" "4194304" "349526" "349534" "999999999 " "0" square) "result=2\nat=0\n"
+    ∷ prints (sheetText "1" "4194304" "349526" "349534" "16777216" "0" "33") "result=2\nat=0\n"
+    ∷ prints (sheetText "1" "04194304" "349526" "349534" "16777216" "0" square) "result=2\nat=0\n"
+    ∷ prints (sheetText "1" "4194304" "349526" "349534" "-0" "0" square) "result=2\nat=0\n"
+    ∷ prints (sheetText "1" "4194304" "349526" "349534" "16777216" "-1" square) "result=2\nat=0\n"
+    ∷ prints (sheetText "401" "none" "349526" "349534" "16777216" "0" square) "result=3\nat=0\n"
+    ∷ prints (sheetText "400" "none" "349526" "349534" "16777216" "0" square) "result=2\nat=0\n"
+    ∷ prints (sheetText "1" "4194304" "349526" "349534" "none" "none" square) "result=4\nat=0\n"
     -- the range of each field
     ∷ spans n-limits (pos 1) (pos 8)
     ∷ spans steps-limits (pos 1) (pos 400)
@@ -185,6 +194,7 @@ cases =
     ∷ judged (given 1 1 (missing 536870913 ∷ []) 0) 4
     ∷ judged (given 1 1 (reading 0 536870913 ∷ missing 0 ∷ []) 0) 3
     ∷ judged (given 1 1 (missing 0 ∷ reading 536870913 0 ∷ []) 0) 4
+    ∷ judged (given 1 1 (reading 0 0 ∷ missing 0 ∷ []) 0) 4
     ∷ judged (given 1 1 (missing 0 ∷ []) 33) 4
     ∷ judged (given 1 1 (missing 0 ∷ []) 1) 4
     ∷ judged (given 1 1 (reading 0 0 ∷ []) 1) 3
