@@ -19,6 +19,10 @@ pub mod Invariant
 pub mod WorkingNumbers
 pub mod NextCoefficient
 pub mod Degree
+pub mod Distrust
+pub mod Turned
+pub mod EitherWay
+pub mod OppositeRates
 pub mod RatioNumbers
 pub mod Verdicts
 pub mod Parsers

@@ -2,11 +2,9 @@
 -- of a sheet are put together, and for one line. Assumes nothing.
 use Prim.Native.String.{String}
 use Prim.Native.Nat.{ℕ, zero, suc, _+_, _≤_, _<_}
-use Prim.Native.Char.{code}
 use mathlib.Core.Path.{_≡_, refl, ap, _∙_}
 use mathlib.Core.Bool.{Bool, true, false, _&&_, false≢true}
 use mathlib.Core.List.{List, [], _∷_, _++_}
-use mathlib.Core.Option.{Option, some, none}
 use mathlib.Core.Logic.{⊎-elim}
 use native.Mathlib.Numerals.{add-one}
 use native.Mathlib.Nat.{eq-or-lt-of-le}
@@ -14,11 +12,9 @@ use native.Mathlib.Omega.{arith}
 use lib.Seq.{getD-at}
 use lib.Signed.{leZ}
 use lib.IntN.{ℤ, pos, negsuc, natAbs}
-use lib.Dec.{eqb}
 use lib.ListN.{length, getD, length-append, List·getD-append}
-use Rattle.model.specs.Range.{bytes}
-use Rattle.model.specs.Reading.{Parsed, parsed, fault, Parser, return, _>>=_, times, holds, misspelt, outside, faults, Spelled, spelled, wrong, ended, line, natural, signed, field, signedField, end, after}
-use Rattle.model.specs.Sheet.{number, passes, ask, Limits, within, inRange}
+use Rattle.model.specs.Reading.{Parsed, parsed, fault, Parser, return, _>>=_, times, Spelled, spelled, wrong, line, natural, signed, ranged, field, signedField, step, end}
+use Rattle.model.specs.Sheet.{number, Verdict, passes, refuses, ask, Limits, within, inRange, stepWithin, stepVerdict}
 use Rattle.model.specs.declared.Refusal.{Refusal}
 use Rattle.model.specs.declared.Refusal.the-variants.{Misspelt, OutOfRange}
 use Rattle.model.proofs.Verdicts.{refusal-not-passes}
@@ -75,26 +71,18 @@ yields-end {P = P} a h = record { on = go }
 
 -- ---- the fields
 
-pub yields-line : (key : String) (spelling : List ℕ → Spelled) (limits : Limits) → Yields (λ z. inRange limits z ≡ passes) (λ text. faults (line key spelling limits text))
-unfolding line faults ended number inRange ask
-yields-line key spelling limits = record { on = λ text. found (after (bytes key ++ bytes "=") text) }
+-- a line whose number is asked about: a number that is read passes the question
+pub yields-ranged : (range : ℤ → Bool) (read : List ℕ → Spelled) → Yields (λ z. ask (range z) OutOfRange ≡ passes) (λ text. ranged range (read text))
+unfolding ranged number ask
+yields-ranged range read = record { on = λ text. go (read text) }
   where
-    tested : (z : ℤ) (rest : List ℕ) (b : Bool) → within limits z ≡ b → Delivers (λ z. inRange limits z ≡ passes) (faults (elim b [ true ↦ holds z rest | false ↦ outside ]))
+    tested : (z : ℤ) (rest : List ℕ) (b : Bool) → range z ≡ b → Delivers (λ z. ask (range z) OutOfRange ≡ passes) (elim b [ true ↦ parsed z rest | false ↦ fault OutOfRange ])
     tested z rest true h = delivers {a = z} (rw h)
     tested z rest false h = faulty OutOfRange (omega arith)
 
-    fed : (z : ℤ) (rest : List ℕ) (b : Bool) → Delivers (λ z. inRange limits z ≡ passes) (faults (elim b [ true ↦ elim (within limits z) [ true ↦ holds z rest | false ↦ outside ] | false ↦ misspelt ]))
-    fed z rest true = tested z rest (within limits z) refl
-    fed z rest false = faulty Misspelt (omega arith)
-
-    read : (x : Spelled) → Delivers (λ z. inRange limits z ≡ passes) (faults (ended limits x))
-    read (spelled z []) = faulty Misspelt (omega arith)
-    read (spelled z (b ∷ rest)) = fed z rest (eqb b (code "\n"))
-    read wrong = faulty Misspelt (omega arith)
-
-    found : (x : Option (List ℕ)) → Delivers (λ z. inRange limits z ≡ passes) (faults (elim x [ some rest ↦ ended limits (spelling rest) | none ↦ misspelt ]))
-    found (some rest) = read (spelling rest)
-    found none = faulty Misspelt (omega arith)
+    go : (x : Spelled) → Delivers (λ z. ask (range z) OutOfRange ≡ passes) (ranged range x)
+    go (spelled z rest) = tested z rest (range z) refl
+    go wrong = faulty Misspelt (omega arith)
 
 in-range-natural : (limits : Limits) (z : ℤ) → leZ (pos 0) (limits .low) ≡ true → inRange limits z ≡ passes → z ≡ pos (natAbs z)
 unfolding within inRange ask
@@ -106,9 +94,49 @@ in-range-natural limits (negsuc n) h w = absurd (go (limits .low) h w)
     go (negsuc a) h w = false≢true h
 
 pub yields-field : (key : String) (limits : Limits) → leZ (pos 0) (limits .low) ≡ true → Yields (λ n. inRange limits (pos n) ≡ passes) (field key limits)
-unfolding field
-yields-field key limits h = yields-then (yields-line key natural limits) (λ z w. yields-return (natAbs z) (rw (← in-range-natural limits z h w) w))
+unfolding field inRange
+yields-field key limits h = yields-then (yields-ranged (within limits) (line key natural)) (λ z w. yields-return (natAbs z) (rw (← in-range-natural limits z h w) w))
 
 pub yields-signed : (key : String) (limits : Limits) → Yields (λ z. inRange limits z ≡ passes) (signedField key limits)
-unfolding signedField
-yields-signed key limits = yields-line key signed limits
+unfolding signedField inRange
+yields-signed key limits = yields-ranged (within limits) (line key signed)
+
+pub yields-step : Yields (λ H. stepVerdict H ≡ passes) step
+unfolding step stepVerdict
+yields-step = yields-ranged stepWithin (line "step" signed)
+
+-- ---- a line of a text is asked what numbers are asked, and nothing else
+
+-- what a line comes to whose number has this verdict
+pub answers : {A : Type 0} → Verdict → A → List ℕ → Parsed A
+answers passes a rest = parsed a rest
+answers (refuses r) a rest = fault r
+
+ranged-asks : (range : ℤ → Bool) (z : ℤ) (rest : List ℕ) → ranged range (spelled z rest) ≡ answers (ask (range z) OutOfRange) z rest
+unfolding ranged answers ask
+ranged-asks range z rest = go (range z)
+  where
+    go : (b : Bool) → elim b [ true ↦ parsed z rest | false ↦ fault OutOfRange ] ≡ answers (ask b OutOfRange) z rest
+    go true = refl
+    go false = refl
+
+then-answers : {A B : Type 0} (v : Verdict) (p : Parser A) (f : A → B) (text : List ℕ) (a : A) (rest : List ℕ) → p text ≡ answers v a rest → (p >>= λ a. return (f a)) text ≡ answers v (f a) rest
+unfolding _>>=_ return answers
+then-answers {A} {B} v p f text a rest e = ap (λ (x : Parsed A). elim x [ parsed a rest ↦ return (f a) rest | fault r ↦ fault r ]) e ∙ go v
+  where
+    go : (v : Verdict) → elim (answers v a rest) [ parsed a rest ↦ return (f a) rest | fault r ↦ fault r ] ≡ answers v (f a) rest
+    go passes = refl
+    go (refuses r) = refl
+
+module _ (key : String) (limits : Limits) (text : List ℕ) {z : ℤ} {rest : List ℕ} where
+  pub signed-asked-alike : line key signed text ≡ spelled z rest → signedField key limits text ≡ answers (inRange limits z) z rest
+  unfolding signedField inRange
+  signed-asked-alike e = rw e (ranged-asks (within limits) z rest)
+
+  pub field-asked-alike : line key natural text ≡ spelled z rest → field key limits text ≡ answers (inRange limits z) (natAbs z) rest
+  unfolding field inRange
+  field-asked-alike e = then-answers (inRange limits z) (λ text. ranged (within limits) (line key natural text)) natAbs text z rest (rw e (ranged-asks (within limits) z rest))
+
+pub step-asked-alike : (text : List ℕ) {H : ℤ} {rest : List ℕ} → line "step" signed text ≡ spelled H rest → step text ≡ answers (stepVerdict H) H rest
+unfolding step stepVerdict
+step-asked-alike text {H} {rest} e = rw e (ranged-asks stepWithin H rest)

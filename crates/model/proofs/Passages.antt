@@ -106,6 +106,15 @@ module _ (sheet : Sheet) (lent : ℕ) where
       judged passes true e l = let enough = leb-true (placesNeeded sheet) lent l in rw (passage-runs e enough) (runs e enough)
       judged passes false e l = rw (passage-too-few-places e (leb-false (placesNeeded sheet) lent l)) (before TooFewPlaces)
 
+-- two sheets with the same verdict, the same places and the same run have the same passage
+pub passage-alike : (a b : Sheet) (lent : ℕ) → sheetVerdict a ≡ sheetVerdict b → placesNeeded a ≡ placesNeeded b → run a ≡ run b → passage a lent ≡ passage b lent
+unfolding passage
+passage-alike a b lent verdict needed ran =
+    λ t. elim (verdict t) [
+      | refuses r ↦ refused r 0
+      | passes ↦ elim (leb (needed t) lent) [ true ↦ ran t | false ↦ refused TooFewPlaces 0 ]
+    ]
+
 pub rows-of-passage : (sheet : Sheet) (places : ℕ) → Rows sheet (passage sheet places)
 rows-of-passage sheet places = passage-either sheet places (Rows sheet) no-rows (λ e room. rows-of-run sheet)
   where

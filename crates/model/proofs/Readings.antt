@@ -14,8 +14,8 @@ use lib.Dec.{leb}
 use lib.ListN.{length, getD, take, replicate, length-append, length-replicate, List·getD-append}
 use borrow.Author.Tests.{lt-leb, eq-eqb}
 use Rattle.model.specs.Range.{bytes}
-use Rattle.model.specs.Reading.{Parsed, parsed, fault, return, _>>=_, signedField, start, quantity, term, head, quantities, terms, body, sheet, accepted, readSheet, after}
-use Rattle.model.specs.Sheet.{most-bytes, most-quantities, most-terms, number, Verdict, passes, _then_, inOrder, headVerdict, quantityVerdict, quantitiesVerdict, startVerdict, termVerdict, termsVerdict, sheetVerdict, no-quantity, no-term, no-sheet, padded, quantitiesHeld, termsHeld, ZeroPastCounts, n-limits, steps-limits, step-limits, tail-limits, tol-limits, start-limits, radius-limits, terms-limits, to-limits, coef-limits, first-limits, second-limits, from_to_}
+use Rattle.model.specs.Reading.{Parsed, parsed, fault, return, _>>=_, signedField, start, quantity, term, head, quantities, terms, body, sheet, accepted, readSheetTo, after}
+use Rattle.model.specs.Sheet.{most-bytes, most-quantities, most-terms, number, Verdict, passes, _then_, inOrder, headVerdict, quantityVerdict, quantitiesVerdict, startVerdict, termVerdict, termsVerdict, sheetVerdictTo, sheetVerdict, no-quantity, no-term, no-sheet, padded, quantitiesHeld, termsHeld, ZeroPastCounts, n-limits, steps-limits, tail-limits, tol-limits, start-limits, radius-limits, terms-limits, to-limits, coef-limits, first-limits, second-limits, from_to_}
 use Rattle.model.specs.declared.Refusal.{Refusal}
 use Rattle.model.specs.declared.Refusal.the-variants.{Oversized, NoReading}
 use Rattle.model.specs.declared.Start.{Start}
@@ -27,7 +27,7 @@ use Rattle.model.specs.declared.Sheet.{Sheet}
 use Rattle.model.specs.declared.Outcome.the-variants.{Accepted, Refused}
 use Rattle.model.proofs.Verdicts.{refusal-not-passes, in-range, few-quantities, sheet-in-range, both-pass}
 use Rattle.model.proofs.Ranges.{below, before-or-past}
-use Rattle.model.proofs.Parsers.{Delivers, delivers, faulty, Yields, Each, yields-return, yields-then, yields-times, yields-end, yields-field, yields-signed}
+use Rattle.model.proofs.Parsers.{Delivers, delivers, faulty, Yields, Each, yields-return, yields-then, yields-times, yields-end, yields-field, yields-signed, yields-step}
 
 -- ---- the parts of a sheet
 
@@ -95,20 +95,21 @@ unfolding inOrder
 all-pass zero h = refl
 all-pass (suc n) h = then-passes (all-pass n (below n h)) (h n (omega arith))
 
--- an accepted sheet: every field in its range, every start a number, its lists as long as they are declared, and 0 past its counts
-pub record Acceptable (sheet : Sheet) : Type 0 where
-  pub verdict : sheetVerdict sheet ≡ passes
+-- an accepted sheet of at most so many steps: every field in its range, every start a number, its lists as long as they are declared, and 0
+-- past its counts
+pub record Acceptable (high : ℕ) (sheet : Sheet) : Type 0 where
+  pub verdict : sheetVerdictTo high sheet ≡ passes
   pub quantities : length (sheet .quantities) ≡ most-quantities
   pub terms : length (sheet .terms .list) ≡ most-terms
   pub zeros : ZeroPastCounts sheet
 
 -- what a head that is read passes
-pub yields-head : Yields (λ x. headVerdict x ≡ passes) head
-unfolding head headVerdict n-limits steps-limits step-limits tail-limits tol-limits from_to_
-yields-head =
+pub yields-head : (high : ℕ) → Yields (λ x. headVerdict high x ≡ passes) (head high)
+unfolding head headVerdict n-limits steps-limits tail-limits tol-limits from_to_
+yields-head high =
     yields-then (yields-field "n" n-limits refl) (λ n a.
-    yields-then (yields-field "steps" steps-limits refl) (λ steps b.
-    yields-then (yields-field "step" step-limits refl) (λ step c.
+    yields-then (yields-field "steps" (steps-limits high) refl) (λ steps b.
+    yields-then yields-step (λ step c.
     yields-then (yields-field "tail" tail-limits refl) (λ tail d.
     yields-then (yields-field "tol" tol-limits refl) (λ tol e.
     yields-return _ (then-passes a (then-passes b (then-passes c (then-passes d e)))))))))
@@ -142,11 +143,11 @@ yields-terms n =
       past = ap (λ (list : List Term). record { count = count; list = list }) (t .past);
     })))
 
-yields-sheet : Yields Acceptable sheet
-unfolding sheet body sheetVerdict
-yields-sheet =
-    yields-then yields-head (λ head a.
-    yields-then (yields-quantities (few-quantities head a)) (λ quantities q.
+yields-sheet : (high : ℕ) → Yields (Acceptable high) (sheet high)
+unfolding sheet body sheetVerdictTo
+yields-sheet high =
+    yields-then (yields-head high) (λ head a.
+    yields-then (yields-quantities (few-quantities high head a)) (λ quantities q.
     yields-then (yields-terms (head .n)) (λ terms t.
     yields-end _
     (record {
@@ -158,52 +159,54 @@ yields-sheet =
 
 -- ---- the theorems
 
-delivers-sheet : (text : List ℕ) (short : Bool) → Delivers Acceptable (elim short [ true ↦ sheet text | false ↦ fault Oversized ])
-unfolding number
-delivers-sheet text true = yields-sheet .on text
-delivers-sheet text false = faulty Oversized (omega arith)
-
-pub accepted-is-acceptable : (text : List ℕ) → readSheet text .outcome ≡ Accepted → Acceptable (readSheet text .sheet)
-unfolding readSheet accepted
-accepted-is-acceptable text = go (elim (leb (length text) most-bytes) [ true ↦ sheet text | false ↦ fault Oversized ]) (delivers-sheet text (leb (length text) most-bytes))
-  where
-    go : (x : Parsed Sheet) → Delivers Acceptable x → accepted x .outcome ≡ Accepted → Acceptable (accepted x .sheet)
-    go (parsed x rest) (delivers g) h = g
-    go (fault r) (faulty _ g) h = absurd (let z : _≡_ {A = ℕ} 0 1 = cc in omega arith)
-
 pub record RefusedSheet (r : Refusal) (step : ℕ) (sheet : Sheet) : Type 0 where
   pub zeros : sheet ≡ no-sheet
   pub before-steps : step ≡ 0
   pub first-four : number r ≤ 4
 
-pub refused-is-zeros : (text : List ℕ) {r : Refusal} {step : ℕ} → readSheet text .outcome ≡ Refused r step → RefusedSheet r step (readSheet text .sheet)
-unfolding readSheet accepted
-refused-is-zeros text {r} {step} = go (elim (leb (length text) most-bytes) [ true ↦ sheet text | false ↦ fault Oversized ]) (delivers-sheet text (leb (length text) most-bytes))
-  where
-    go : (x : Parsed Sheet) → Delivers Acceptable x → accepted x .outcome ≡ Refused r step → RefusedSheet r step (accepted x .sheet)
-    go (parsed x rest) (delivers g) h = absurd (let z : _≡_ {A = ℕ} 0 1 = cc in omega arith)
-    go (fault found) (faulty _ g) h = let same : found ≡ r = cc in record { zeros = refl; before-steps = cc; first-four = rw same at g }
+-- for every most of steps
+module _ (high : ℕ) where
+  delivers-sheet : (text : List ℕ) (short : Bool) → Delivers (Acceptable high) (elim short [ true ↦ sheet high text | false ↦ fault Oversized ])
+  unfolding number
+  delivers-sheet text true = yields-sheet high .on text
+  delivers-sheet text false = faulty Oversized (omega arith)
 
--- ---- refusals 1 and 4
+  pub accepted-is-acceptable : (text : List ℕ) → readSheetTo high text .outcome ≡ Accepted → Acceptable high (readSheetTo high text .sheet)
+  unfolding readSheetTo accepted
+  accepted-is-acceptable text = go (elim (leb (length text) most-bytes) [ true ↦ sheet high text | false ↦ fault Oversized ]) (delivers-sheet text (leb (length text) most-bytes))
+    where
+      go : (x : Parsed Sheet) → Delivers (Acceptable high) x → accepted x .outcome ≡ Accepted → Acceptable high (accepted x .sheet)
+      go (parsed x rest) (delivers g) h = g
+      go (fault r) (faulty _ g) h = absurd (let z : _≡_ {A = ℕ} 0 1 = cc in omega arith)
 
-oversized : (text : List ℕ) → most-bytes < length text → readSheet text ≡ accepted (fault Oversized)
-unfolding readSheet
-oversized text h = rw (lt-leb (length text) most-bytes h)
+  pub refused-is-zeros : (text : List ℕ) {r : Refusal} {step : ℕ} → readSheetTo high text .outcome ≡ Refused r step → RefusedSheet r step (readSheetTo high text .sheet)
+  unfolding readSheetTo accepted
+  refused-is-zeros text {r} {step} = go (elim (leb (length text) most-bytes) [ true ↦ sheet high text | false ↦ fault Oversized ]) (delivers-sheet text (leb (length text) most-bytes))
+    where
+      go : (x : Parsed Sheet) → Delivers (Acceptable high) x → accepted x .outcome ≡ Refused r step → RefusedSheet r step (accepted x .sheet)
+      go (parsed x rest) (delivers g) h = absurd (let z : _≡_ {A = ℕ} 0 1 = cc in omega arith)
+      go (fault found) (faulty _ g) h = let same : found ≡ r = cc in record { zeros = refl; before-steps = cc; first-four = rw same at g }
 
-pub long-text-is-oversized : (text : List ℕ) → most-bytes < length text → readSheet text .outcome ≡ Refused Oversized 0
-unfolding accepted
-long-text-is-oversized text h = rw (oversized text h)
+  -- refusal 1
+  oversized : (text : List ℕ) → most-bytes < length text → readSheetTo high text ≡ accepted (fault Oversized)
+  unfolding readSheetTo
+  oversized text h = rw (lt-leb (length text) most-bytes h)
 
--- a text is read as its front is, if that has room for a byte more than a sheet may have: where there are more, both are too long
-pub read-from-front : (room : ℕ) (text : List ℕ) → most-bytes < room → readSheet (take room text) ≡ readSheet text
-read-from-front room text enough = ⊎-elim long short (before-or-past room (length text))
-  where
-    long : room < length text → readSheet (take room text) ≡ readSheet text
-    long h = oversized (take room text) (rw (length-take-le room text (omega arith)) enough) ∙ sym (oversized text (omega arith))
+  pub long-text-is-oversized : (text : List ℕ) → most-bytes < length text → readSheetTo high text .outcome ≡ Refused Oversized 0
+  unfolding accepted
+  long-text-is-oversized text h = rw (oversized text h)
 
-    short : length text ≤ room → readSheet (take room text) ≡ readSheet text
-    short h = ap readSheet (take-all room text h)
+  -- a text is read as its front is, if that has room for a byte more than a sheet may have: where there are more, both are too long
+  pub read-from-front : (room : ℕ) (text : List ℕ) → most-bytes < room → readSheetTo high (take room text) ≡ readSheetTo high text
+  read-from-front room text enough = ⊎-elim long short (before-or-past room (length text))
+    where
+      long : room < length text → readSheetTo high (take room text) ≡ readSheetTo high text
+      long h = oversized (take room text) (rw (length-take-le room text (omega arith)) enough) ∙ sym (oversized text (omega arith))
 
+      short : length text ≤ room → readSheetTo high (take room text) ≡ readSheetTo high text
+      short h = ap (readSheetTo high) (take-all room text h)
+
+-- refusal 4
 pub starts-are-readings : (sheet : Sheet) → sheetVerdict sheet ≡ passes → (i : ℕ) → i < sheet .head .n → (z : ℤ) × (getD (sheet .quantities) i no-quantity .start ≡ Reading z)
 unfolding quantityVerdict startVerdict
 starts-are-readings sheet h i l = reading (getD (sheet .quantities) i no-quantity .start) (both-pass _ _ (sheet-in-range sheet h .quantity i l) .0)

@@ -12,7 +12,7 @@ use lib.Dec.{leb}
 use lib.IntN.{ℤ, pos, negsuc, natAbs}
 use lib.ListN.{length, getD, List·getD-eq-default}
 use lib.Signed.{leZ}
-use Rattle.model.specs.Sheet.{passes, Limits, from_to_, ±_, within, inRange, sheetVerdict, no-term, scale, most, most-terms, most-coef, step-limits, terms-limits, to-limits, first-limits, coef-limits, second-limits, termsOf, most-quantities, most-steps, n-limits, steps-limits, tail-limits, tol-limits}
+use Rattle.model.specs.Sheet.{passes, Limits, ±_, within, inRange, sheetVerdict, no-term, scale, most, most-terms, most-coef, terms-limits, to-limits, first-limits, coef-limits, second-limits, termsOf, most-quantities, most-steps, n-limits, steps-limits, tail-limits, tol-limits}
 use Rattle.model.specs.Step.{Ball, no-ball, reach, greatest, ratio}
 use Rattle.model.specs.Passage.{small, slow, most-ratio}
 use Rattle.model.specs.declared.Refusal.the-variants.{OutOfRange}
@@ -21,7 +21,7 @@ use Rattle.model.specs.declared.Term.{Term}
 use Rattle.model.proofs.Ranges.{sum-le, sum-constant}
 use Rattle.model.proofs.Listed.{length-listed, getD-listed}
 use Rattle.model.specs.Bounds.{total, most-total, TermsInBounds, InBounds}
-use Rattle.model.proofs.Verdicts.{answered-yes, both-true, every-holds, in-range, TermInRange, SheetInRange, sheet-in-range}
+use Rattle.model.proofs.Verdicts.{answered-yes, both-true, every-holds, in-range, step-in-range, TermInRange, SheetInRange, sheet-in-range}
 
 -- ---- magnitudes by range
 
@@ -29,11 +29,6 @@ tests : (limits : Limits) (z : ℤ) → inRange limits z ≡ passes → (leZ (li
 unfolding inRange within
 tests limits z e =
     both-true (leZ (limits .low) z) (leZ z (limits .high)) (answered-yes (within limits z) OutOfRange e)
-
-pub positive-magnitude : (low : ℕ) {high : ℕ} (z : ℤ) → inRange (from low to high) z ≡ passes → natAbs z ≤ high
-unfolding from_to_
-positive-magnitude low {high} (pos n) e = in-range n e .1
-positive-magnitude low {high} (negsuc n) e = absurd (false≢true (tests (from low to high) (negsuc n) e .0))
 
 pub signed-magnitude : (high : ℕ) (z : ℤ) → inRange (± high) z ≡ passes → natAbs z ≤ high
 unfolding ±_
@@ -82,13 +77,13 @@ module _ (sheet : Sheet) (ranges : SheetInRange sheet) where
       le-trans (sum-le (length (termsOf sheet)) _ (λ j. most-coef) (λ j h. signed-magnitude most-coef _ (term-of-sheet j h .coefficient))) (rw (sum-constant (length (termsOf sheet)) most-coef) (mul-le-mul-right most-coef terms-at-most))
 
   terms-in-bounds : TermsInBounds (termsOf sheet) (sheet .head .step) (sheet .head .n)
-  unfolding to-limits first-limits step-limits scale
+  unfolding to-limits first-limits
   terms-in-bounds =
       record {
         count = terms-at-most;
         total = in-total;
         formed = formed;
-        step = positive-magnitude 1 (sheet .head .step) (ranges .head .step);
+        step = step-in-range (sheet .head .step) (ranges .head .step) .1;
         to-low = λ j h. in-range _ (term-of-sheet j h .target) .0;
         to-high = λ j h. in-range _ (term-of-sheet j h .target) .1;
         first-high = λ j h. in-range _ (term-of-sheet j h .first) .1;
@@ -104,6 +99,8 @@ bounds-of-sheet sheet passed = terms-in-bounds sheet (sheet-in-range sheet passe
 pub record Counts (sheet : Sheet) : Type 0 where
   pub n-high : sheet .head .n ≤ most-quantities
   pub steps-high : sheet .head .steps ≤ most-steps
+  pub step-low : 1 ≤ natAbs (sheet .head .step)
+  pub step-high : natAbs (sheet .head .step) ≤ scale
   pub tail-low : 2 ≤ sheet .head .tail
   pub tail-high : sheet .head .tail ≤ scale
   pub tol-high : sheet .head .tol ≤ most
@@ -116,6 +113,8 @@ counts-of-sheet sheet passed =
     record {
       n-high = in-range _ (ranges .head .n) .1;
       steps-high = in-range _ (ranges .head .steps) .1;
+      step-low = step-in-range _ (ranges .head .step) .0;
+      step-high = step-in-range _ (ranges .head .step) .1;
       tail-low = in-range _ (ranges .head .tail) .0;
       tail-high = in-range _ (ranges .head .tail) .1;
       tol-high = in-range _ (ranges .head .tol) .1;

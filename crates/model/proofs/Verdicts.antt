@@ -3,20 +3,21 @@
 use Prim.Native.Nat.{ℕ, zero, suc, _≤_, _<_}
 use mathlib.Core.Bool.{Bool, true, false, _&&_}
 use mathlib.Core.Logic.{⊎-elim}
-use mathlib.Core.Path.{_≡_, refl}
+use mathlib.Core.Path.{_≡_, refl, ap₂}
 use native.Mathlib.Nat.{eq-or-lt-of-le}
 use native.Mathlib.Omega.{arith}
-use borrow.Author.Tests.{leb-true}
+use borrow.Author.Tests.{leb-true, le-leb}
 use lib.Dec.{leb}
-use lib.IntN.{pos}
+use lib.IntN.{ℤ, pos, natAbs}
 use lib.ListN.{getD}
 use Rattle.model.specs.Range.{every}
-use Rattle.model.specs.Sheet.{most-quantities, Verdict, passes, refuses, ask, _then_, inOrder, from_to_, within, n-limits, steps-limits, step-limits, tail-limits, tol-limits, terms-limits, to-limits, coef-limits, first-limits, second-limits, inRange, headVerdict, quantityVerdict, quantitiesVerdict, termVerdict, termsVerdict, no-quantity, no-term, sheetVerdict}
+use Rattle.model.specs.Sheet.{most-quantities, most-steps, Verdict, passes, refuses, ask, _then_, inOrder, from_to_, within, scale, n-limits, steps-limits, step-limits, stepWithin, tail-limits, tol-limits, terms-limits, to-limits, coef-limits, first-limits, second-limits, inRange, stepVerdict, headVerdict, quantityVerdict, quantitiesVerdict, termVerdict, termsVerdict, no-quantity, no-term, sheetVerdictTo, sheetVerdict}
 use Rattle.model.specs.declared.Refusal.{Refusal}
 use Rattle.model.specs.declared.Refusal.the-variants.{OutOfRange}
 use Rattle.model.specs.declared.Head.{Head}
 use Rattle.model.specs.declared.Sheet.{Sheet}
 use Rattle.model.specs.declared.Term.{Term}
+use Rattle.model.proofs.Ranges.{below}
 
 -- ---- questions
 
@@ -34,6 +35,11 @@ each-passes zero f e i lt = absurd (omega arith)
 each-passes (suc n) f e i lt =
     let both = both-pass (inOrder n f) (f n) e in
     ⊎-elim (λ (h : i ≡ n). rw h (both .1)) (λ (h : i < n). each-passes n f (both .0) i h) (eq-or-lt-of-le {n = i} {m = n} (omega arith))
+
+pub in-order-equal : (n : ℕ) (f g : ℕ → Verdict) → ((i : ℕ) → i < n → f i ≡ g i) → inOrder n f ≡ inOrder n g
+unfolding inOrder
+in-order-equal zero f g h = refl
+in-order-equal (suc n) f g h = ap₂ (λ (earlier later : Verdict). earlier then later) (in-order-equal n f g (below n h)) (h n (omega arith))
 
 pub answered-yes : (b : Bool) (r : Refusal) → ask b r ≡ passes → b ≡ true
 unfolding ask
@@ -59,6 +65,16 @@ in-range {low} {high} n e =
     let both = both-true (leb low n) (leb n high) (answered-yes (leb low n && leb n high) OutOfRange e) in
     (leb-true low n (both .0), leb-true n high (both .1))
 
+-- a step that passes is at least one unit long and at most one whole, forward or back ..
+pub step-in-range : (H : ℤ) → stepVerdict H ≡ passes → (1 ≤ natAbs H) × (natAbs H ≤ scale)
+unfolding stepVerdict stepWithin step-limits inRange
+step-in-range H e = in-range {low = 1} {high = scale} (natAbs H) e
+
+-- .. and every such step passes
+pub step-passes : (H : ℤ) → 1 ≤ natAbs H → natAbs H ≤ scale → stepVerdict H ≡ passes
+unfolding stepVerdict stepWithin step-limits from_to_ within ask
+step-passes H low high = rw (le-leb 1 (natAbs H) low, le-leb (natAbs H) scale high)
+
 -- ---- a sheet
 
 pub record TermInRange (n : ℕ) (term : Term) : Type 0 where
@@ -75,41 +91,42 @@ term-in-range n term e =
     let c = both-pass (inRange (first-limits n) (pos (term .first))) _ (b .1) in
     record { target = a .0; coefficient = b .0; first = c .0; second = c .1 }
 
-pub record HeadInRange (head : Head) : Type 0 where
+-- a head of at most so many steps
+pub record HeadInRange (high : ℕ) (head : Head) : Type 0 where
   pub n : inRange n-limits (pos (head .n)) ≡ passes
-  pub steps : inRange steps-limits (pos (head .steps)) ≡ passes
-  pub step : inRange step-limits (head .step) ≡ passes
+  pub steps : inRange (steps-limits high) (pos (head .steps)) ≡ passes
+  pub step : stepVerdict (head .step) ≡ passes
   pub tail : inRange tail-limits (pos (head .tail)) ≡ passes
   pub tol : inRange tol-limits (pos (head .tol)) ≡ passes
 
-pub head-in-range : (head : Head) → headVerdict head ≡ passes → HeadInRange head
+pub head-in-range : (high : ℕ) (head : Head) → headVerdict high head ≡ passes → HeadInRange high head
 unfolding headVerdict
-head-in-range head e =
+head-in-range high head e =
     let a = both-pass (inRange n-limits (pos (head .n))) _ e in
-    let b = both-pass (inRange steps-limits (pos (head .steps))) _ (a .1) in
-    let c = both-pass (inRange step-limits (head .step)) _ (b .1) in
+    let b = both-pass (inRange (steps-limits high) (pos (head .steps))) _ (a .1) in
+    let c = both-pass (stepVerdict (head .step)) _ (b .1) in
     let d = both-pass (inRange tail-limits (pos (head .tail))) _ (c .1) in
     record { n = a .0; steps = b .0; step = c .0; tail = d .0; tol = d .1 }
 
 -- no more quantities than a sheet may have
-pub few-quantities : (head : Head) → headVerdict head ≡ passes → head .n ≤ most-quantities
+pub few-quantities : (high : ℕ) (head : Head) → headVerdict high head ≡ passes → head .n ≤ most-quantities
 unfolding n-limits
-few-quantities head e = in-range {low = 1} {high = most-quantities} (head .n) (head-in-range head e .n) .1
+few-quantities high head e = in-range {low = 1} {high = most-quantities} (head .n) (head-in-range high head e .n) .1
 
 pub record SheetInRange (sheet : Sheet) : Type 0 where
-  pub head : HeadInRange (sheet .head)
+  pub head : HeadInRange most-steps (sheet .head)
   pub quantity : (i : ℕ) → i < sheet .head .n → quantityVerdict (getD (sheet .quantities) i no-quantity) ≡ passes
   pub terms : inRange terms-limits (pos (sheet .terms .count)) ≡ passes
   pub term : (j : ℕ) → j < sheet .terms .count → TermInRange (sheet .head .n) (getD (sheet .terms .list) j no-term)
 
 pub sheet-in-range : (sheet : Sheet) → sheetVerdict sheet ≡ passes → SheetInRange sheet
-unfolding sheetVerdict quantitiesVerdict termsVerdict
+unfolding sheetVerdictTo quantitiesVerdict termsVerdict
 sheet-in-range sheet e =
-    let a = both-pass (headVerdict (sheet .head)) _ e in
+    let a = both-pass (headVerdict most-steps (sheet .head)) _ e in
     let b = both-pass (quantitiesVerdict (sheet .head .n) (sheet .quantities)) _ (a .1) in
     let c = both-pass (inRange terms-limits (pos (sheet .terms .count))) _ (b .1) in
     record {
-      head = head-in-range (sheet .head) (a .0);
+      head = head-in-range most-steps (sheet .head) (a .0);
       quantity = each-passes (sheet .head .n) (λ i. quantityVerdict (getD (sheet .quantities) i no-quantity)) (b .0);
       terms = c .0;
       term = λ j lt. term-in-range (sheet .head .n) (getD (sheet .terms .list) j no-term) (each-passes (sheet .terms .count) (λ j. termVerdict (sheet .head .n) (getD (sheet .terms .list) j no-term)) (c .1) j lt);

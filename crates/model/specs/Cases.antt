@@ -1,16 +1,17 @@
--- Document 01's soundings A to J, the range of each field, the order of question 3 and what else no sounding fixes, as one table. proofs/Cases.antt has the one theorem, that all of them hold.
+-- Document 01's soundings A to J, A and D with the step back, the range of each field, the order of question 3 and what else no sounding fixes, as
+-- one table. proofs/Cases.antt has the one theorem, that all of them hold.
 use Prim.Native.Nat.{ℕ}
 use Prim.Native.Char.{code}
 use Prim.Native.String.{String, _++_ as _&_}
-use mathlib.Core.Bool.{true, false}
+use mathlib.Core.Bool.{Bool, true, false}
 use mathlib.Core.List.{List, [], _∷_, map}
 use mathlib.Core.Path.{_≡_}
 use lib.IntN.{ℤ, pos, negsuc, negℤ, _+ℤ_, _-ℤ_}
 use lib.ListN.{length, take, drop, replicate}
 use Rattle.rounding.specs.Rounding.{near, up}
 use Rattle.model.specs.Range.{bytes}
-use Rattle.model.specs.Sheet.{Gives, Limits, within, n-limits, steps-limits, step-limits, tail-limits, tol-limits, start-limits, radius-limits, terms-limits, to-limits, coef-limits, first-limits, second-limits, quantitiesHeld, termsHeld}
-use Rattle.model.specs.Reading.{readSheet}
+use Rattle.model.specs.Sheet.{most-steps, result, Gives, within, n-limits, steps-limits, stepWithin, tail-limits, tol-limits, start-limits, radius-limits, terms-limits, to-limits, coef-limits, first-limits, second-limits, quantitiesHeld, termsHeld}
+use Rattle.model.specs.Reading.{readSheetTo, readSheet}
 use Rattle.model.specs.Step.{Row}
 use Rattle.model.specs.Passage.{passage}
 use Rattle.model.specs.Rows.{written}
@@ -46,10 +47,12 @@ pub data Case : Type 0 where
   alone : String → Case
   -- a text of so many letters is refused by this number, before step 1
   garbled : ℕ → ℕ → Case
+  -- a reader of at most so many steps gives a sheet's text this result
+  takes : ℕ → String → ℕ → Case
   -- a sheet given as numbers, with no places lent, is refused by this number, before step 1
   judged : Sheet → ℕ → Case
-  -- limits have these ends, which are in range, and the numbers next to them are not
-  spans : Limits → ℤ → ℤ → Case
+  -- a range has these ends, and the numbers next to them are outside
+  spans : (ℤ → Bool) → ℤ → ℤ → Case
   nearIs : ℤ → ℕ → ℤ → Case
   upIs : ℕ → ℕ → ℕ → Case
 
@@ -69,9 +72,10 @@ Holds (alone sheet) =
     × (drop 1 (read .quantities) ≡ replicate 7 (record { start = Reading (pos 0); radius = 0 }))
     × (drop 1 (read .terms .list) ≡ replicate 31 (record { to = 0; coef = pos 0; first = 0; second = 0 }))
 Holds (garbled count number) = Gives (runOf (replicate count (code "n")) .outcome) number 0
+Holds (takes high sheet number) = result (readSheetTo high (bytes sheet) .outcome) ≡ number
 Holds (judged sheet number) = Gives (passage sheet 0 .outcome) number 0
-Holds (spans limits low high) =
-    (map (within limits) (low ∷ high ∷ []) ≡ true ∷ true ∷ []) × (map (within limits) ((low -ℤ pos 1) ∷ (high +ℤ pos 1) ∷ []) ≡ false ∷ false ∷ [])
+Holds (spans range low high) =
+    (map range (low ∷ high ∷ []) ≡ true ∷ true ∷ []) × (map range ((low -ℤ pos 1) ∷ (high +ℤ pos 1) ∷ []) ≡ false ∷ false ∷ [])
 Holds (nearIs n d z) = near n d ≡ z
 Holds (upIs n d u) = up n d ≡ u
 
@@ -101,11 +105,11 @@ reading start radius = record { start = Reading (pos start); radius = radius }
 unfoldable pub missing : ℕ → Quantity
 missing radius = record { start = Missing; radius = radius }
 
--- a sheet given as numbers: its steps, its tolerance, its quantities, how many terms
-unfoldable pub given : ℕ → ℕ → List Quantity → ℕ → Sheet
-given steps tol quantities terms =
+-- a sheet given as numbers: its steps, its step, its tolerance, its quantities, how many terms
+unfoldable pub given : ℕ → ℤ → ℕ → List Quantity → ℕ → Sheet
+given steps step tol quantities terms =
     record {
-      head = record { n = length quantities; steps = steps; step = pos 1; tail = 2; tol = tol };
+      head = record { n = length quantities; steps = steps; step = step; tail = 2; tol = tol };
       quantities = quantitiesHeld quantities;
       terms = termsHeld terms [];
     }
@@ -114,10 +118,10 @@ given steps tol quantities terms =
 unfoldable pub square : String
 square = one "1" "1"
 
--- two quantities, each in the other's rate: x' = y, y' = -x × y
-unfoldable pub two : String
-two =
-    "n=2\nsteps=2\nstep=4194304\ntail=349526\ntol=100000\nstart=16777216\nradius=3\nstart=8388608\nradius=5\nterms=2\n"
+-- two quantities, each in the other's rate, with this step and tolerance: x' = y, y' = -x × y
+unfoldable pub two : String → String → String
+two step tol =
+    "n=2\nsteps=2\nstep=" & step & "\ntail=349526\ntol=" & tol & "\nstart=16777216\nradius=3\nstart=8388608\nradius=5\nterms=2\n"
     & "to=1\ncoef=16777216\nfirst=2\nsecond=0\nto=2\ncoef=-16777216\nfirst=1\nsecond=2\n"
 
 -- the table
@@ -152,9 +156,16 @@ cases =
     -- J
     ∷ lent (sheetText "2" "4194304" "349526" "349534" "0" "0" none) 6 0
     ∷ lent (sheetText "2" "4194304" "349526" "349534" "0" "0" none) 5 5
+    -- A, D, E and a term of one factor with the step back, and two quantities over two steps: Q alone keeps the step's sign, every size has |H|
+    ∷ prints (sheetText "1" "-4194304" "349526" "349534" "16777216" "0" square) "row=1\ndegree=2\nvalue=13631488\nradius=349534\nresult=0\nat=0\n"
+    ∷ opensAt (sheetText "1" "-8388608" "349526" "349534" "16777216" "0" square) 6
+    ∷ ends (sheetText "1" "-8388609" "349526" "349534" "16777216" "0" square) 7 1
+    ∷ opens (sheetText "1" "-8388608" "2" "49" "0" "0" (one "0" "0")) 23 (negℤ (pos 8388608)) 49
+    ∷ opens (sheetText "1" "-8388608" "2" "51" "16777216" "0" (one "1" "0")) 23 (pos 10175897) 51
+    ∷ prints (two "-4194304" "536870912") "row=1\ndegree=3\nvalue=14406997\nradius=87396\nvalue=10594987\nradius=87400\nrow=2\ndegree=2\nvalue=11473932\nradius=462862\nvalue=12904591\nradius=478082\nresult=0\nat=0\n"
     -- two quantities, refused at step 2: the text, and the lent buffer with a place more than its rows need
-    ∷ prints two "row=1\ndegree=3\nvalue=18623147\nradius=87396\nvalue=6444373\nradius=87400\nresult=8\nat=2\n"
-    ∷ leaves two (replicate 11 (pos 7)) (pos 3 ∷ pos 18623147 ∷ pos 6444373 ∷ pos 87396 ∷ pos 87400 ∷ replicate 6 (pos 7))
+    ∷ prints (two "4194304" "100000") "row=1\ndegree=3\nvalue=18623147\nradius=87396\nvalue=6444373\nradius=87400\nresult=8\nat=2\n"
+    ∷ leaves (two "4194304" "100000") (replicate 11 (pos 7)) (pos 3 ∷ pos 18623147 ∷ pos 6444373 ∷ pos 87396 ∷ pos 87400 ∷ replicate 6 (pos 7))
     -- questions 1 and 2: a sheet with a byte more, no byte at all, a number of nine digits and one of ten, what stands past the counts, texts of the
     -- most bytes and of one more
     ∷ prints (sheetText "1" "4194304" "349526" "349534" "16777216" "0" square & "\n") "result=2\nat=0\n"
@@ -173,30 +184,46 @@ cases =
     ∷ prints (sheetText "401" "none" "349526" "349534" "16777216" "0" square) "result=3\nat=0\n"
     ∷ prints (sheetText "400" "none" "349526" "349534" "16777216" "0" square) "result=2\nat=0\n"
     ∷ prints (sheetText "1" "4194304" "349526" "349534" "none" "none" square) "result=4\nat=0\n"
+    -- the step: a minus, never before 0; 0 and a step of more than one whole are spelled rightly, ten digits are not; the ends of its range
+    ∷ prints (sheetText "1" "0" "349526" "349534" "16777216" "0" square) "result=3\nat=0\n"
+    ∷ prints (sheetText "1" "-0" "349526" "349534" "16777216" "0" square) "result=2\nat=0\n"
+    ∷ prints (sheetText "1" "-16777216" "349526" "349534" "16777216" "0" square) "result=7\nat=1\n"
+    ∷ prints (sheetText "1" "-16777217" "349526" "349534" "16777216" "0" square) "result=3\nat=0\n"
+    ∷ prints (sheetText "1" "-1000000000" "349526" "349534" "16777216" "0" square) "result=2\nat=0\n"
+    ∷ opens (sheetText "1" "-1" "349526" "349534" "16777216" "0" square) 0 (pos 16777216) 2
+    ∷ opens (sheetText "1" "1" "349526" "349534" "16777216" "0" square) 0 (pos 16777216) 2
+    ∷ prints (sheetText "1" "16777216" "349526" "349534" "16777216" "0" square) "result=7\nat=1\n"
+    ∷ prints (sheetText "1" "16777217" "349526" "349534" "16777216" "0" square) "result=3\nat=0\n"
     -- the range of each field
-    ∷ spans n-limits (pos 1) (pos 8)
-    ∷ spans steps-limits (pos 1) (pos 400)
-    ∷ spans step-limits (pos 1) (pos 16777216)
-    ∷ spans tail-limits (pos 2) (pos 16777216)
-    ∷ spans tol-limits (pos 1) (pos 536870912)
-    ∷ spans start-limits (negℤ (pos 536870912)) (pos 536870912)
-    ∷ spans radius-limits (pos 0) (pos 536870912)
-    ∷ spans terms-limits (pos 0) (pos 32)
-    ∷ spans (to-limits 5) (pos 1) (pos 5)
-    ∷ spans coef-limits (negℤ (pos 268435456)) (pos 268435456)
-    ∷ spans (first-limits 5) (pos 0) (pos 5)
-    ∷ spans (second-limits 5 3) (pos 0) (pos 5)
-    ∷ spans (second-limits 5 0) (pos 0) (pos 0)
-    ∷ judged (given 400 1 (reading 0 0 ∷ []) 0) 5
-    ∷ judged (given 401 1 (reading 0 0 ∷ []) 0) 3
+    ∷ spans (within n-limits) (pos 1) (pos 8)
+    ∷ spans (within (steps-limits most-steps)) (pos 1) (pos 400)
+    ∷ spans stepWithin (negℤ (pos 16777216)) (negℤ (pos 1))
+    ∷ spans stepWithin (pos 1) (pos 16777216)
+    ∷ spans (within tail-limits) (pos 2) (pos 16777216)
+    ∷ spans (within tol-limits) (pos 1) (pos 536870912)
+    ∷ spans (within start-limits) (negℤ (pos 536870912)) (pos 536870912)
+    ∷ spans (within radius-limits) (pos 0) (pos 536870912)
+    ∷ spans (within terms-limits) (pos 0) (pos 32)
+    ∷ spans (within (to-limits 5)) (pos 1) (pos 5)
+    ∷ spans (within coef-limits) (negℤ (pos 268435456)) (pos 268435456)
+    ∷ spans (within (first-limits 5)) (pos 0) (pos 5)
+    ∷ spans (within (second-limits 5 3)) (pos 0) (pos 5)
+    ∷ spans (within (second-limits 5 0)) (pos 0) (pos 0)
+    ∷ judged (given 400 (pos 1) 1 (reading 0 0 ∷ []) 0) 5
+    ∷ judged (given 401 (pos 1) 1 (reading 0 0 ∷ []) 0) 3
+    ∷ judged (given 1 (negℤ (pos 16777216)) 1 (reading 0 0 ∷ []) 0) 5
+    ∷ judged (given 1 (negℤ (pos 16777217)) 1 (reading 0 0 ∷ []) 0) 3
+    ∷ judged (given 1 (pos 0) 1 (reading 0 0 ∷ []) 0) 3
+    ∷ takes 401 (sheetText "401" "4194304" "349526" "349534" "16777216" "0" square) 0
+    ∷ takes 401 (sheetText "402" "4194304" "349526" "349534" "16777216" "0" square) 3
     -- question 3: 3 and 4 in the order of the fields, and 5 after them
-    ∷ judged (given 1 0 (missing 0 ∷ []) 0) 3
-    ∷ judged (given 1 1 (missing 536870913 ∷ []) 0) 4
-    ∷ judged (given 1 1 (reading 0 536870913 ∷ missing 0 ∷ []) 0) 3
-    ∷ judged (given 1 1 (missing 0 ∷ reading 536870913 0 ∷ []) 0) 4
-    ∷ judged (given 1 1 (reading 0 0 ∷ missing 0 ∷ []) 0) 4
-    ∷ judged (given 1 1 (missing 0 ∷ []) 33) 4
-    ∷ judged (given 1 1 (missing 0 ∷ []) 1) 4
-    ∷ judged (given 1 1 (reading 0 0 ∷ []) 1) 3
-    ∷ judged (given 1 1 (reading 0 0 ∷ []) 0) 5
+    ∷ judged (given 1 (pos 1) 0 (missing 0 ∷ []) 0) 3
+    ∷ judged (given 1 (pos 1) 1 (missing 536870913 ∷ []) 0) 4
+    ∷ judged (given 1 (pos 1) 1 (reading 0 536870913 ∷ missing 0 ∷ []) 0) 3
+    ∷ judged (given 1 (pos 1) 1 (missing 0 ∷ reading 536870913 0 ∷ []) 0) 4
+    ∷ judged (given 1 (pos 1) 1 (reading 0 0 ∷ missing 0 ∷ []) 0) 4
+    ∷ judged (given 1 (pos 1) 1 (missing 0 ∷ []) 33) 4
+    ∷ judged (given 1 (pos 1) 1 (missing 0 ∷ []) 1) 4
+    ∷ judged (given 1 (pos 1) 1 (reading 0 0 ∷ []) 1) 3
+    ∷ judged (given 1 (pos 1) 1 (reading 0 0 ∷ []) 0) 5
     ∷ []

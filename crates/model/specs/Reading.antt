@@ -9,7 +9,7 @@ use mathlib.Core.Option.{Option, some, none}
 use lib.IntN.{ℤ, pos, negsuc, natAbs}
 use lib.ListN.{length}
 use Rattle.model.specs.Range.{bytes}
-use Rattle.model.specs.Sheet.{most-bytes, most-digits, Limits, within, quantitiesHeld, termsHeld, no-sheet, n-limits, steps-limits, step-limits, tail-limits, tol-limits, start-limits, radius-limits, terms-limits, to-limits, coef-limits, first-limits, second-limits}
+use Rattle.model.specs.Sheet.{most-bytes, most-digits, most-steps, Limits, within, stepWithin, quantitiesHeld, termsHeld, no-sheet, n-limits, steps-limits, tail-limits, tol-limits, start-limits, radius-limits, terms-limits, to-limits, coef-limits, first-limits, second-limits}
 use Rattle.model.specs.declared.Head.{Head}
 use Rattle.model.specs.declared.Start.{Start}
 use Rattle.model.specs.declared.Start.the-variants.{Reading}
@@ -66,23 +66,15 @@ after [] rest = some rest
 after (k ∷ key) [] = none
 after (k ∷ key) (b ∷ rest) = elim (eqb k b) [ true ↦ after key rest | false ↦ none ]
 
--- what a line holds, or what is wrong with it
-pub data Line : Type 0 where
-  holds : ℤ → List ℕ → Line
-  misspelt : Line
-  outside : Line
+-- a number that was spelled, and the bytes after the line feed that ends its line
+unfoldable pub ended : Spelled → Spelled
+ended (spelled z []) = wrong
+ended (spelled z (b ∷ rest)) = elim (eqb b (code "\n")) [ true ↦ spelled z rest | false ↦ wrong ]
+ended wrong = wrong
 
--- a number that was spelled, to the end of its line: the line feed decides before the range
-unfoldable pub ended : Limits → Spelled → Line
-ended limits (spelled z []) = misspelt
-ended limits (spelled z (b ∷ rest)) =
-    elim (eqb b (code "\n")) [ true ↦ elim (within limits z) [ true ↦ holds z rest | false ↦ outside ] | false ↦ misspelt ]
-ended limits wrong = misspelt
-
--- the key, `=`, and a number so spelled, in its limits
-unfoldable pub line : String → (List ℕ → Spelled) → Limits → List ℕ → Line
-line key spelling limits text =
-    elim (after (bytes key ++ bytes "=") text) [ some rest ↦ ended limits (spelling rest) | none ↦ misspelt ]
+-- the key, `=`, a number so spelled, and a line feed
+unfoldable pub line : String → (List ℕ → Spelled) → List ℕ → Spelled
+line key spelling text = elim (after (bytes key ++ bytes "=") text) [ some rest ↦ ended (spelling rest) | none ↦ wrong ]
 
 -- ---- a sheet
 
@@ -112,31 +104,34 @@ times (suc n) p = do
   x ← p
   return (xs ++ (x ∷ []))
 
--- a line's number, or its fault as a refusal
-unfoldable pub faults : Line → Parsed ℤ
-faults (holds z rest) = parsed z rest
-faults misspelt = fault Misspelt
-faults outside = fault OutOfRange
+-- question 2 of a line: are key, number and line feed right? If not, 2. Is the number in its range? If not, 3.
+unfoldable pub ranged : (ℤ → Bool) → Spelled → Parsed ℤ
+ranged range wrong = fault Misspelt
+ranged range (spelled z rest) = elim (range z) [ true ↦ parsed z rest | false ↦ fault OutOfRange ]
 
 -- a field without a minus, whose number is never negative
 unfoldable pub field : String → Limits → Parser ℕ
 field key limits = do
-  z ← (λ text. faults (line key natural limits text))
+  z ← (λ text. ranged (within limits) (line key natural text))
   return (natAbs z)
 
 -- a field that may have a minus
 unfoldable pub signedField : String → Limits → Parser ℤ
-signedField key limits text = faults (line key signed limits text)
+signedField key limits text = ranged (within limits) (line key signed text)
 
--- the lines above the quantities
-unfoldable pub head : Parser Head
-head = do
+-- the step, which may have a minus and is not 0
+unfoldable pub step : Parser ℤ
+step text = ranged stepWithin (line "step" signed text)
+
+-- the lines above the quantities, with at most so many steps
+unfoldable pub head : ℕ → Parser Head
+head high = do
   n ← field "n" n-limits
-  steps ← field "steps" steps-limits
-  step ← field "step" step-limits
+  steps ← field "steps" (steps-limits high)
+  H ← step
   tail ← field "tail" tail-limits
   tol ← field "tol" tol-limits
-  return (record { n = n; steps = steps; step = pos step; tail = tail; tol = tol })
+  return (record { n = n; steps = steps; step = H; tail = tail; tol = tol })
 
 -- `start` alone may read `none`: no reading
 unfoldable pub start : Parser Start
@@ -189,10 +184,10 @@ body head = do
   terms ← terms (head .n)
   end (record { head = head; quantities = quantities; terms = terms })
 
--- a sheet, from its first line to the end of the text
-unfoldable pub sheet : Parser Sheet
-sheet = do
-  head ← head
+-- a sheet, with at most so many steps, from its first line to the end of the text
+unfoldable pub sheet : ℕ → Parser Sheet
+sheet high = do
+  head ← head high
   body head
 
 -- what reading gives: the sheet, or the refusal and the sheet of zeros
@@ -200,6 +195,10 @@ unfoldable pub accepted : Parsed Sheet → ReadSheet
 accepted (parsed x rest) = record { outcome = Accepted; sheet = x }
 accepted (fault r) = record { outcome = Refused r 0; sheet = no-sheet }
 
--- the reading of a sheet's bytes: question 1, and then its lines
-unfoldable pub readSheet : List ℕ → ReadSheet
-readSheet text = accepted (elim (leb (length text) most-bytes) [ true ↦ sheet text | false ↦ fault Oversized ])
+-- the reading of a sheet's bytes, with at most so many steps (a reader of stored sheets may take more): question 1, and then its lines
+unfoldable pub readSheetTo : ℕ → List ℕ → ReadSheet
+readSheetTo high text = accepted (elim (leb (length text) most-bytes) [ true ↦ sheet high text | false ↦ fault Oversized ])
+
+-- the reading of the bytes of a passage's sheet
+abbrev pub readSheet : List ℕ → ReadSheet
+readSheet text = readSheetTo most-steps text

@@ -3,7 +3,7 @@ use Prim.Native.Nat.{ℕ, zero, suc, _-_}
 use mathlib.Core.Bool.{Bool, true, false, _&&_}
 use mathlib.Core.List.{List, [], _++_}
 use mathlib.Core.Path.{_≡_}
-use lib.IntN.{ℤ, pos, negℤ}
+use lib.IntN.{ℤ, pos, negℤ, natAbs}
 use lib.ListN.{length, getD, take, replicate}
 use lib.Signed.{leZ}
 use Rattle.model.specs.Range.{tabulate}
@@ -134,13 +134,17 @@ within limits z = leZ (limits .low) z && leZ z (limits .high)
 unfoldable pub n-limits : Limits
 n-limits = from 1 to most-quantities
 
--- steps: 1..400
-unfoldable pub steps-limits : Limits
-steps-limits = from 1 to most-steps
+-- steps: 1 up to the most that are taken, 400 in a passage
+unfoldable pub steps-limits : ℕ → Limits
+steps-limits high = from 1 to high
 
--- step: 1..16777216
+-- the step's length, |H|: 1..16777216
 unfoldable pub step-limits : Limits
 step-limits = from 1 to scale
+
+-- step: -16777216..-1 and 1..16777216
+unfoldable pub stepWithin : ℤ → Bool
+stepWithin H = within step-limits (pos (natAbs H))
 
 -- tail: 2..16777216
 unfoldable pub tail-limits : Limits
@@ -185,12 +189,16 @@ second-limits n (suc first) = from 0 to n
 unfoldable pub inRange : Limits → ℤ → Verdict
 inRange limits z = ask (within limits z) OutOfRange
 
--- the numbers above the quantities
-unfoldable pub headVerdict : Head → Verdict
-headVerdict head =
+-- the step: refusal 3 where it is 0 or longer than one whole, either way
+unfoldable pub stepVerdict : ℤ → Verdict
+stepVerdict H = ask (stepWithin H) OutOfRange
+
+-- the numbers above the quantities, with at most so many steps
+unfoldable pub headVerdict : ℕ → Head → Verdict
+headVerdict high head =
     inRange n-limits (pos (head .n)) then
-    inRange steps-limits (pos (head .steps)) then
-    inRange step-limits (head .step) then
+    inRange (steps-limits high) (pos (head .steps)) then
+    stepVerdict (head .step) then
     inRange tail-limits (pos (head .tail)) then
     inRange tol-limits (pos (head .tol))
 
@@ -229,12 +237,16 @@ termsVerdict n terms =
     inRange terms-limits (pos (terms .count)) then
     inOrder (terms .count) (λ j. termVerdict n (getD (terms .list) j no-term))
 
--- a sheet: the numbers above the quantities, these, and the terms
-unfoldable pub sheetVerdict : Sheet → Verdict
-sheetVerdict sheet =
-    headVerdict (sheet .head) then
+-- a sheet, with at most so many steps: the numbers above the quantities, these, and the terms
+unfoldable pub sheetVerdictTo : ℕ → Sheet → Verdict
+sheetVerdictTo high sheet =
+    headVerdict high (sheet .head) then
     quantitiesVerdict (sheet .head .n) (sheet .quantities) then
     termsVerdict (sheet .head .n) (sheet .terms)
+
+-- a sheet of a passage
+abbrev pub sheetVerdict : Sheet → Verdict
+sheetVerdict sheet = sheetVerdictTo most-steps sheet
 
 -- ---- what its numbers mean: terms, and the values and radii of the start
 

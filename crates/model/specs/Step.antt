@@ -101,7 +101,7 @@ products table k first (suc second) =
 unfoldable pub times : ℤ → Ball → Ball
 times a ball = record { value = near (a *ℤ ball .value) scale; radius = up (natAbs a * ball .radius) scale + 1 }
 
--- v and g of a term at order k: A times (Q and f, H times (S and F))
+-- v and g of a term at order k: A times Q and f, which are H times S and F: Q with H's sign, f by |H|
 unfoldable pub share : ℤ → Coefficients → ℕ → Term → Ball
 share H table k term = times (term .coef) (times H (products table k (term .first) (term .second)))
 

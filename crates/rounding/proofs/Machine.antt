@@ -29,9 +29,12 @@ abs-of-fits {w} {z = negsuc n} f = f .sfits
 pub sign-test : {w : Width} {b : Bool} {n : ℤ} → SFits w n → ltZ (toZ w (ofZ w n)) (pos 0) ≡ b → ltZ n (pos 0) ≡ b
 sign-test f h = rw (toZ-ofZ f) at h
 
--- a magnitude, of the number itself and not of its bits
+-- what is said of a number's bits, said of the number itself; and of its magnitude
+pub of-number : {w : Width} {A : Type 0} (f : ℤ → A) {n : ℤ} {a : A} → SFits w n → a ≡ f (toZ w (ofZ w n)) → a ≡ f n
+of-number f fits e = e ∙ ap f (toZ-ofZ fits)
+
 pub magnitude-is : {w : Width} {n : ℤ} {m : ℕ} → SFits w n → m ≡ natAbs (toZ w (ofZ w n)) → m ≡ natAbs n
-magnitude-is f e = rw (toZ-ofZ f) at e
+magnitude-is = of-number natAbs
 
 pub negative-abs : (n : ℤ) → ltZ n (pos 0) ≡ true → 1 ≤ natAbs n
 negative-abs (pos n) t = absurd (omega (arith, ltb-true n 0 t))

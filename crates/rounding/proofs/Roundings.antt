@@ -1,6 +1,6 @@
 -- What `up` and `near` are, for any divisor from 1 up: `IsUp` and `IsNear` hold of them, and of nothing else.
 -- Assumes nothing.
-use Prim.Native.Nat.{ℕ, suc, _+_, _*_, _-_, _/_, _≤_, _<_}
+use Prim.Native.Nat.{ℕ, zero, suc, _+_, _*_, _-_, _/_, _≤_, _<_}
 use mathlib.Core.Path.{_≡_, refl, sym, ap, _∙_, subst}
 use native.Mathlib.Nat.{div-lt-iff-lt-mul, div-eq-of-lt-le, div-add-mod', mod-lt, le-antisymm, le-refl, le-trans, mul-le-mul-right, one-mul, le-mul-of-pos-right}
 use native.Mathlib.Omega.{arith}
@@ -83,6 +83,13 @@ near-negative (negsuc k) d t = refl
 pub near-natural : (n d : ℕ) → near (pos n) d ≡ pos (nearℕ n d)
 unfolding near
 near-natural n d = refl
+
+-- near does the same on both sides of 0
+pub near-neg : (n : ℤ) {d : ℕ} → 0 < d → near (negℤ n) d ≡ negℤ (near n d)
+unfolding near
+near-neg (pos zero) {d} h = let none : nearℕ 0 d ≡ 0 = omega (arith, nearℕ-le 0 h) in rw none
+near-neg (pos (suc n)) h = refl
+near-neg (negsuc n) {d} h = sym (negℤ-negℤ (pos (nearℕ (suc n) d)))
 
 distance-neg : (n : ℤ) (d : ℕ) (z : ℤ) → distance (negℤ n) d (negℤ z) ≡ distance n d z
 unfolding distance
