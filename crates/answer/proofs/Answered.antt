@@ -12,7 +12,7 @@ use Rattle.model.specs.Answer.{answer, runText, runOf}
 use Rattle.model.specs.Rows.{width, places, written, rowsIn}
 use Rattle.model.specs.Passage.{Run, passage, run, refused, placesNeeded, rowsWritten}
 use Rattle.model.specs.Reading.{readSheet}
-use Rattle.model.specs.Sheet.{most-bytes, most-quantities, most-steps, n-limits, headVerdict, no-head, sheetVerdict, refuses, no-sheet, inRange, ask, within, from_to_, _then_}
+use Rattle.model.specs.Sheet.{most-bytes, most-quantities, most-steps, n-limits, headVerdict, no-head, sheetVerdictTo, sheetVerdict, refuses, no-sheet, inRange, ask, within, from_to_, _then_}
 use Rattle.model.specs.Trust.{TrustedOf}
 use Rattle.model.specs.declared.Outcome.{Outcome}
 use Rattle.model.specs.declared.Outcome.the-variants.{Accepted, Refused}
@@ -44,12 +44,12 @@ passage-fits sheet lent =
 
 -- a sheet of zeros is out of range
 zeros-refused : sheetVerdict no-sheet ≡ refuses OutOfRange
-unfolding sheetVerdict headVerdict no-sheet no-head inRange ask within n-limits from_to_ _then_
+unfolding sheetVerdictTo headVerdict no-sheet no-head inRange ask within n-limits from_to_ _then_
 zeros-refused = refl
 
 -- those of a sheet that was read
 counts-of-accepted : (sheet : List ℕ) → readSheet sheet .outcome ≡ Accepted → Counts (readSheet sheet .sheet)
-counts-of-accepted sheet e = counts-of-sheet (readSheet sheet .sheet) (accepted-is-acceptable sheet e .verdict)
+counts-of-accepted sheet e = counts-of-sheet (readSheet sheet .sheet) (accepted-is-acceptable most-steps sheet e .verdict)
 
 -- ---- by what the sheet is read as
 
@@ -68,7 +68,7 @@ module _ (sheet : List ℕ) (lent : ℕ) where
     where
       go : (outcome : Outcome) → readSheet sheet .outcome ≡ outcome → runLent sheet lent .rows ≡ passage (readSheet sheet .sheet) lent .rows
       go Accepted e = ap (λ (run : Run). run .rows) (lent-accepted e)
-      go (Refused r step) e = unfold refused in rw (lent-refused e, refused-is-zeros sheet e .zeros, passage-refused no-sheet lent zeros-refused)
+      go (Refused r step) e = unfold refused in rw (lent-refused e, refused-is-zeros most-steps sheet e .zeros, passage-refused no-sheet lent zeros-refused)
 
   -- ---- the rows
 
@@ -86,7 +86,7 @@ module _ (sheet : List ℕ) (lent : ℕ) where
       go Accepted e =
           let counts = counts-of-accepted sheet e in
           (counts .n-high, rw rows-are (le-trans (rows-of-passage (readSheet sheet .sheet) lent .fits) (counts .steps-high)))
-      go (Refused r step) e = unfold refused no-sheet no-head in rw (lent-refused e, refused-is-zeros sheet e .zeros) (omega arith, omega arith)
+      go (Refused r step) e = unfold refused no-sheet no-head in rw (lent-refused e, refused-is-zeros most-steps sheet e .zeros) (omega arith, omega arith)
 
 -- read back from the buffer, they are the same
 read-back : (sheet : List ℕ) (before : List ℤ) → let rows = runLent sheet (length before) .rows in rowsIn (readSheet sheet .sheet .head .n) (length rows) (written rows before) ≡ rows
@@ -145,7 +145,7 @@ enough-is-run sheet lent enough = go (readSheet sheet .outcome) refl
     go : (outcome : Outcome) → readSheet sheet .outcome ≡ outcome → runLent sheet lent ≡ runOf sheet
     go Accepted e =
         let counts = counts-of-accepted sheet e in
-        lent-accepted sheet lent e ∙ passage-runs (readSheet sheet .sheet) lent (accepted-is-acceptable sheet e .verdict) (needs-at-most (readSheet sheet .sheet) (counts .n-high) (counts .steps-high) enough) ∙ sym (rw (e, runOf))
+        lent-accepted sheet lent e ∙ passage-runs (readSheet sheet .sheet) lent (accepted-is-acceptable most-steps sheet e .verdict) (needs-at-most (readSheet sheet .sheet) (counts .n-high) (counts .steps-high) enough) ∙ sym (rw (e, runOf))
     go (Refused r step) e = lent-refused sheet lent e ∙ sym (rw (e, runOf))
 
 pub enough-is-answer : (sheet : List ℕ) (lent : ℕ) → most-steps * width most-quantities ≤ lent → runText (runLent sheet lent) ≡ answer sheet
@@ -184,4 +184,4 @@ answer-by-reading e =
 
 pub alike-by-front : (room : ℕ) (input bytes : List ℕ) → most-bytes < room → FrontOf room input bytes → AnswersAlike input bytes
 unfolding FrontOf
-alike-by-front room input bytes enough e = answer-by-reading (sym (read-from-front room input enough) ∙ sym (ap readSheet e))
+alike-by-front room input bytes enough e = answer-by-reading (sym (read-from-front most-steps room input enough) ∙ sym (ap readSheet e))

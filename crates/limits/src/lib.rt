@@ -3,13 +3,23 @@
 ghost use mathlib.Core.Path.{_≡_};
 ghost use lib.IntN.{pos};
 ghost use Rattle.model.specs.Sheet as model;
+ghost use Rattle.model.specs.Sheet.{from_to_};
 use model::Limits;
 use model::MOST;
 use model::MOST_COEF;
 use model::MOST_QUANTITIES;
-use model::MOST_STEPS;
 use model::MOST_TERMS;
 use model::SCALE;
+
+// low .. high. (They are u32 here, so that the limits can hold each.)
+fn from_to(low: u32, high: u32) -> Limits
+    ensures { λ r. ⌜ r ≡ (from low to high) ⌝ }
+{
+    Limits {
+        low: low as i64,
+        high: high as i64,
+    }
+}
 
 // n: 1..8.
 pub const N: Limits = Limits {
@@ -17,17 +27,25 @@ pub const N: Limits = Limits {
     high: MOST_QUANTITIES as i64,
 };
 
-// steps: 1..400.
-pub const STEPS: Limits = Limits {
-    low: 1,
-    high: MOST_STEPS as i64,
-};
+// steps: 1 up to the most that are taken.
+pub fn steps_limits(most: u32) -> Limits
+    ensures { λ r. ⌜ r ≡ model.steps-limits most ⌝ }
+{
+    from_to(1, most)
+}
 
-// step: 1..16777216.
-pub const STEP: Limits = Limits {
+// The step's length: 1..16777216.
+const STEP: Limits = Limits {
     low: 1,
     high: SCALE as i64,
 };
+
+// step: -16777216..-1 and 1..16777216.
+pub fn step_within(step: i64) -> bool
+    ensures { λ r. ⌜ r ≡ model.stepWithin step ⌝ }
+{
+    natural_within(STEP, rounding::magnitude(step))
+}
 
 // tail: 2..16777216.
 pub const TAIL: Limits = Limits {
@@ -59,14 +77,11 @@ pub const TERMS: Limits = Limits {
     high: MOST_TERMS as i64,
 };
 
-// `to` names one of the n quantities. (n is a u32 here, so that the limits can hold every n.)
+// `to` names one of the n quantities.
 pub fn to_limits(n: u32) -> Limits
     ensures { λ r. ⌜ r ≡ model.to-limits n ⌝ }
 {
-    Limits {
-        low: 1,
-        high: n as i64,
-    }
+    from_to(1, n)
 }
 
 // `coef`, the same for every n.
@@ -79,10 +94,7 @@ pub const COEF: Limits = Limits {
 pub fn first_limits(n: u32) -> Limits
     ensures { λ r. ⌜ r ≡ model.first-limits n ⌝ }
 {
-    Limits {
-        low: 0,
-        high: n as i64,
-    }
+    from_to(0, n)
 }
 
 // Where `first` is 0, any `second` but 0 is out of range.

@@ -13,9 +13,9 @@ use lib.IntN.{ℤ, pos, negsuc, _-ℤ_, +ℤ-idl}
 use lib.Signed.{ltZ}
 use lib.ListN.{length, getD, drop}
 use lib.Seq.{drop-cons, drop-length}
-use Rattle.model.specs.Reading.{spelled, wrong, isDigit, digits, natural, negated, signed, after, ended, holds, misspelt, outside}
-use Rattle.model.specs.declared.Limits.{Limits}
-use Rattle.model.specs.Sheet.{most-digits, within}
+use Rattle.model.specs.Reading.{Spelled, spelled, wrong, isDigit, digits, natural, negated, signed, after, ended, parsed, fault, ranged}
+use Rattle.model.specs.declared.Refusal.the-variants.{Misspelt, OutOfRange}
+use Rattle.model.specs.Sheet.{most-digits}
 use Rattle.lines.specs.Places.{digit, other, frontDigit}
 
 -- What an answer r is read as by f, where r is a: the definition's value is what a is read as.
@@ -138,19 +138,30 @@ negated-other (negsuc n) m h = refl
 
 -- ---- the end of a line
 
-module _ (limits : Limits) (z : ℤ) {l : List ℕ} where
-  pub ended-short : l ≡ [] → ended limits (spelled z l) ≡ misspelt
+module _ (z : ℤ) {l : List ℕ} where
+  pub ended-short : l ≡ [] → ended (spelled z l) ≡ wrong
   unfolding ended
   ended-short e = rw e
 
-  pub ended-other : {b : ℕ} {m : List ℕ} → l ≡ b ∷ m → (b ≡ 10 → ⊥) → ended limits (spelled z l) ≡ misspelt
+  pub ended-other : {b : ℕ} {m : List ℕ} → l ≡ b ∷ m → (b ≡ 10 → ⊥) → ended (spelled z l) ≡ wrong
   unfolding ended
   ended-other {b} e differs = rw (e, ne-eqb b 10 differs, ended)
 
-  pub ended-within : {b : ℕ} {m : List ℕ} → l ≡ b ∷ m → b ≡ 10 → within limits z ≡ true → ended limits (spelled z l) ≡ holds z m
+  pub ended-feed : {b : ℕ} {m : List ℕ} → l ≡ b ∷ m → b ≡ 10 → ended (spelled z l) ≡ spelled z m
   unfolding ended
-  ended-within {b} e feed h = rw (e, eq-eqb b 10 feed, h, ended)
+  ended-feed {b} e feed = rw (e, eq-eqb b 10 feed, ended)
 
-  pub ended-outside : {b : ℕ} {m : List ℕ} → l ≡ b ∷ m → b ≡ 10 → within limits z ≡ false → ended limits (spelled z l) ≡ outside
-  unfolding ended
-  ended-outside {b} e feed h = rw (e, eq-eqb b 10 feed, h, ended)
+-- ---- the range of its number
+
+module _ (range : ℤ → Bool) {x : Spelled} where
+  pub ranged-wrong : x ≡ wrong → ranged range x ≡ fault Misspelt
+  unfolding ranged
+  ranged-wrong e = rw e
+
+  pub ranged-inside : {z : ℤ} {m : List ℕ} → x ≡ spelled z m → range z ≡ true → ranged range x ≡ parsed z m
+  unfolding ranged
+  ranged-inside e h = rw (e, h, ranged)
+
+  pub ranged-outside : {z : ℤ} {m : List ℕ} → x ≡ spelled z m → range z ≡ false → ranged range x ≡ fault OutOfRange
+  unfolding ranged
+  ranged-outside e h = rw (e, h, ranged)

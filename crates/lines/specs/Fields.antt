@@ -4,7 +4,8 @@ use mathlib.Core.Bool.{Bool, false}
 use mathlib.Core.List.{List}
 use lib.IntN.{ℤ, natAbs}
 use Rattle.model.specs.declared.Limits.{Limits}
-use Rattle.model.specs.Reading.{Parsed, parsed, fault, Parser, return, _>>=_, faults}
+use Rattle.model.specs.Sheet.{within}
+use Rattle.model.specs.Reading.{Parsed, parsed, fault, Parser, return, _>>=_, ranged}
 use Rattle.lines.specs.Places.{rest, lineAfter}
 use Rattle.lines.specs.declared.fields.WholeLine.{WholeLine}
 use Rattle.lines.specs.declared.fields.WholeLine.the-variants as whole
@@ -18,7 +19,7 @@ wholeRead text (whole.Fault r) = fault r
 
 -- a field whose key is given as its bytes, the equals sign with them: where a minus may be allowed ..
 unfoldable pub wholeAfter : List ℕ → Bool → Limits → Parser ℤ
-wholeAfter key minus limits text = faults (lineAfter key minus limits text)
+wholeAfter key minus limits text = ranged (within limits) (lineAfter key minus text)
 
 -- the same of a natural number
 unfoldable pub naturalRead : List ℕ → NaturalLine → Parsed ℕ

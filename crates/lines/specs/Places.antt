@@ -5,9 +5,8 @@ use mathlib.Core.Bool.{Bool, true, false}
 use mathlib.Core.List.{List, [], _∷_}
 use mathlib.Core.Option.{Option, some, none}
 use lib.ListN.{drop}
-use Rattle.model.specs.Reading.{isDigit, natural, signed, after, ended, spelled, wrong, holds, misspelt, outside}
+use Rattle.model.specs.Reading.{isDigit, natural, signed, after, ended, spelled, wrong}
 use Rattle.model.specs.Reading as model
-use Rattle.model.specs.declared.Limits.{Limits}
 use Rattle.lines.specs.declared.cursor.Cursor.{Cursor}
 use Rattle.lines.specs.declared.cursor.NextByte.{NextByte}
 use Rattle.lines.specs.declared.cursor.NextByte.the-variants.{Byte, End}
@@ -17,8 +16,6 @@ use Rattle.lines.specs.declared.cursor.Spelled.{Spelled}
 use Rattle.lines.specs.declared.cursor.Spelled.the-variants.{Number, Wrong}
 use Rattle.lines.specs.declared.cursor.After.{After}
 use Rattle.lines.specs.declared.cursor.After.the-variants.{Here, Elsewhere}
-use Rattle.lines.specs.declared.cursor.Line.{Line}
-use Rattle.lines.specs.declared.cursor.Line.the-variants as line
 
 -- the bytes from a cursor on
 unfoldable pub rest : List ℕ → Cursor → List ℕ
@@ -64,13 +61,6 @@ unfoldable pub spelling : Bool → List ℕ → model.Spelled
 spelling true = signed
 spelling false = natural
 
--- what a line held that was read, with the bytes after it
-unfoldable pub lineAt : List ℕ → Line → model.Line
-lineAt text (line.Number z next) = holds z (rest text next)
-lineAt text line.Misspelt = misspelt
-lineAt text line.Outside = outside
-
 -- a line whose key is given as its bytes, the equals sign with them
-unfoldable pub lineAfter : List ℕ → Bool → Limits → List ℕ → model.Line
-lineAfter key minus limits text =
-    elim (after key text) [ some rest ↦ ended limits (spelling minus rest) | none ↦ misspelt ]
+unfoldable pub lineAfter : List ℕ → Bool → List ℕ → model.Spelled
+lineAfter key minus text = elim (after key text) [ some rest ↦ ended (spelling minus rest) | none ↦ wrong ]

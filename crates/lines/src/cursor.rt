@@ -4,8 +4,7 @@ ghost use mathlib.Core.Path.{_≡_};
 ghost use Prim.Native.Nat.{_-_, _<_};
 ghost use Rattle.model.specs.Sheet.{«most-digits»};
 ghost use Rattle.model.specs.Reading as model;
-ghost use Rattle.lines.specs.Places.{rest, byteRead, empty, digitRead, frontDigit, spelledAt, foundAfter, spelling, lineAt, lineAfter};
-use model::Limits;
+ghost use Rattle.lines.specs.Places.{rest, byteRead, empty, digitRead, frontDigit, spelledAt, foundAfter, spelling, lineAfter};
 use model::MOST_DIGITS;
 
 // A place in a text: how many bytes stand before it.
@@ -35,13 +34,6 @@ pub enum Spelled {
 pub enum After {
     Here(Cursor),
     Elsewhere,
-}
-
-// What a line holds, or what is wrong with it.
-pub enum Line {
-    Number(i64, Cursor),
-    Misspelt,
-    Outside,
 }
 
 // Whether a byte is one of 0 to 9.
@@ -177,34 +169,30 @@ impl Cursor {
         After::Here(cursor)
     }
 
-    // A number was read up to here: a missing line feed decides before the number's range.
-    fn ended(self, text: &[u8], z: i64, limits: Limits) -> Line
-        ensures { λ r. ⌜ lineAt (now (text .entry)) r ≡ model.ended limits (model.spelled z (rest (now (text .entry)) self)) ⌝ }
+    // A number was read up to here: the place after the line feed that ends its line.
+    fn ended(self, text: &[u8], z: i64) -> Spelled
+        ensures { λ r. ⌜ spelledAt (now (text .entry)) r ≡ model.ended (model.spelled z (rest (now (text .entry)) self)) ⌝ }
     {
-        let fits = limits::within(limits, z);
         let NextByte::Byte(b, next) = self.next_byte(text) else {
-            return Line::Misspelt;
+            return Spelled::Wrong;
         };
-        if b != b'\n' {
-            return Line::Misspelt;
-        }
-        if fits {
-            Line::Number(z, next)
+        if b == b'\n' {
+            Spelled::Number(z, next)
         } else {
-            Line::Outside
+            Spelled::Wrong
         }
     }
 
-    // One line: the key with its equals sign, a number in its limits, a line feed.
-    pub fn line(self, text: &[u8], key: &[u8], minus: bool, limits: Limits) -> Line
-        ensures { λ r. ⌜ lineAt (now (text .entry)) r ≡ lineAfter (now (key .entry)) minus limits (rest (now (text .entry)) self) ⌝ }
+    // One line: the key with its equals sign, a number, a line feed.
+    pub fn line(self, text: &[u8], key: &[u8], minus: bool) -> Spelled
+        ensures { λ r. ⌜ spelledAt (now (text .entry)) r ≡ lineAfter (now (key .entry)) minus (rest (now (text .entry)) self) ⌝ }
     {
         let After::Here(value) = self.after(text, key) else {
-            return Line::Misspelt;
+            return Spelled::Wrong;
         };
         let Spelled::Number(z, end) = value.number(text, minus) else {
-            return Line::Misspelt;
+            return Spelled::Wrong;
         };
-        end.ended(text, z, limits)
+        end.ended(text, z)
     }
 }

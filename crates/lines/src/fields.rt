@@ -4,7 +4,7 @@ ghost use mathlib.Core.Path.{_≡_};
 ghost use Rattle.lines.specs.Places.{rest};
 ghost use Rattle.lines.specs.Fields.{wholeRead, wholeAfter, naturalRead, naturalAfter};
 use crate::cursor::Cursor;
-use crate::cursor::Line;
+use crate::cursor::Spelled;
 use model::Limits;
 use model::Refusal;
 
@@ -37,10 +37,13 @@ impl Cursor {
     pub fn whole_field(self, text: &[u8], key: &[u8], minus: bool, limits: Limits) -> WholeLine
         ensures { λ r. ⌜ wholeRead (now (text .entry)) r ≡ wholeAfter (now (key .entry)) minus limits (rest (now (text .entry)) self) ⌝ }
     {
-        match self.line(text, key, minus, limits) {
-            Line::Number(z, next) => WholeLine::Holds(Whole { value: z, next }),
-            Line::Misspelt => WholeLine::Fault(Refusal::Misspelt),
-            Line::Outside => WholeLine::Fault(Refusal::OutOfRange),
+        let Spelled::Number(z, next) = self.line(text, key, minus) else {
+            return WholeLine::Fault(Refusal::Misspelt);
+        };
+        if limits::within(limits, z) {
+            WholeLine::Holds(Whole { value: z, next })
+        } else {
+            WholeLine::Fault(Refusal::OutOfRange)
         }
     }
 

@@ -5,6 +5,7 @@ mod fields;
 
 pub use cursor::After;
 pub use cursor::Cursor;
+pub use cursor::Spelled;
 pub use fields::Natural;
 pub use fields::NaturalLine;
 pub use fields::Whole;

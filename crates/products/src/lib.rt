@@ -131,7 +131,7 @@ fn times(a: i64, ball: Ball) -> Ball
     }
 }
 
-// v and g of a term at order k: A times (Q and f, H times (S and F)).
+// v and g of a term at order k: A times Q and f, which are H times S and F: Q with H's sign, f by |H|.
 pub fn share(
     step: i64,
     k: usize,

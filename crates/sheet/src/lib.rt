@@ -5,14 +5,18 @@ ghost use Prim.Native.Nat.{_≤_};
 ghost use Rattle.model.specs.Reading as model;
 ghost use Rattle.model.specs.Sheet.{most-quantities, result, Gives, no-head, no-quantity, no-term};
 ghost use Rattle.lines.specs.Places.{rest};
+ghost use Rattle.lines.specs.Fields.{wholeRead};
 ghost use Rattle.sheet.specs.Parts.{headRead, startRead, quantityRead, quantitiesRead, termRead, termsRead};
 use lines::After;
 use lines::Cursor;
 use lines::NaturalLine;
+use lines::Spelled;
+use lines::Whole;
 use lines::WholeLine;
 use model::Head;
 use model::MOST_BYTES;
 use model::MOST_QUANTITIES;
+use model::MOST_STEPS;
 use model::MOST_TERMS;
 use model::Outcome;
 use model::Quantity;
@@ -55,21 +59,37 @@ struct ReadTerms {
     next: Cursor,
 }
 
-// The lines above the quantities.
-fn read_head(text: &[u8], from: Cursor) -> HeadLines
-    ensures { λ r. ⌜ headRead (now (text .entry)) r ≡ model.head (rest (now (text .entry)) from) ⌝ }
+// The step, which may have a minus and is not 0.
+fn read_step(text: &[u8], from: Cursor) -> WholeLine
+    ensures { λ r. ⌜ wholeRead (now (text .entry)) r ≡ model.step (rest (now (text .entry)) from) ⌝ }
+{
+    let Spelled::Number(step, next) = from.line(text, b"step=", true) else {
+        return WholeLine::Fault(Refusal::Misspelt);
+    };
+    if limits::step_within(step) {
+        WholeLine::Holds(Whole { value: step, next })
+    } else {
+        WholeLine::Fault(Refusal::OutOfRange)
+    }
+}
+
+// The lines above the quantities, with at most so many steps.
+fn read_head(text: &[u8], most: u32, from: Cursor) -> HeadLines
+    ensures { λ r. ⌜ headRead (now (text .entry)) r ≡ model.head most (rest (now (text .entry)) from) ⌝ }
 {
     let n = match from.natural_field(text, b"n=", limits::N) {
         NaturalLine::Holds(field) => field,
         NaturalLine::Fault(refusal) => return HeadLines::Fault(refusal),
     };
-    let steps = match n.next.natural_field(text, b"steps=", limits::STEPS) {
+    let steps = match n.next
+        .natural_field(text, b"steps=", limits::steps_limits(most)) {
         NaturalLine::Holds(field) => field,
         NaturalLine::Fault(refusal) => return HeadLines::Fault(refusal),
     };
-    let step = match steps.next.natural_field(text, b"step=", limits::STEP) {
-        NaturalLine::Holds(field) => field,
-        NaturalLine::Fault(refusal) => return HeadLines::Fault(refusal),
+    let after_steps = steps.next;
+    let step = match read_step(text, after_steps) {
+        WholeLine::Holds(field) => field,
+        WholeLine::Fault(refusal) => return HeadLines::Fault(refusal),
     };
     let tail = match step.next.natural_field(text, b"tail=", limits::TAIL) {
         NaturalLine::Holds(field) => field,
@@ -84,7 +104,7 @@ fn read_head(text: &[u8], from: Cursor) -> HeadLines
         Head {
             n: n.value as usize,
             steps: steps.value as usize,
-            step: step.value as i64,
+            step: step.value,
             tail: tail.value,
             tol: tol.value,
         },
@@ -322,17 +342,24 @@ fn read_body(text: &[u8], head: Head, from: Cursor) -> ReadSheet
     }
 }
 
-// The reading of a sheet: question 1, then its lines from the top.
-pub fn read(text: &[u8]) -> ReadSheet
-    ensures whole { λ r. ⌜ r ≡ model.readSheet (now (text .entry)) ⌝ }
-    ensures numbered { λ r. ⌜ Gives (r .outcome) (result (model.readSheet (now (text .entry)) .outcome)) 0 ⌝ }
+// The reading of a sheet, with at most so many steps: question 1, then its lines from the top.
+fn read_to(text: &[u8], most: u32) -> ReadSheet
+    ensures { λ r. ⌜ r ≡ model.readSheetTo most (now (text .entry)) ⌝ }
 {
     if MOST_BYTES < text.len() {
         return refused(Refusal::Oversized);
     }
     let top = Cursor { at: 0 };
-    match read_head(text, top) {
+    match read_head(text, most, top) {
         HeadLines::Hold(head, next) => read_body(text, head, next),
         HeadLines::Fault(refusal) => refused(refusal),
     }
+}
+
+// The reading of a sheet.
+pub fn read(text: &[u8]) -> ReadSheet
+    ensures whole { λ r. ⌜ r ≡ model.readSheet (now (text .entry)) ⌝ }
+    ensures numbered { λ r. ⌜ Gives (r .outcome) (result (model.readSheet (now (text .entry)) .outcome)) 0 ⌝ }
+{
+    read_to(text, MOST_STEPS as u32)
 }

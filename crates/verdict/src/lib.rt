@@ -1,11 +1,13 @@
 // Document 01, question 3: a sheet given as numbers meets refusals 3 and 4 in the order of its fields.
 ghost use mathlib.Core.Path.{_≡_};
 ghost use Prim.Native.Nat.{_≤_};
-ghost use Rattle.model.specs.Sheet.{most-quantities, verdictNumber, verdictOutcome, Gives, ask, headVerdict, startVerdict, quantityVerdict, quantitiesVerdict, termVerdict, termsVerdict, sheetVerdict};
+ghost use Rattle.model.specs.Sheet.{most-quantities, most-steps, verdictNumber, verdictOutcome, Gives, ask, headVerdict, startVerdict, quantityVerdict, quantitiesVerdict, termVerdict, termsVerdict, sheetVerdict};
 use limits::natural_within;
+use limits::step_within;
 use limits::within;
 use model::Head;
 use model::MOST_QUANTITIES;
+use model::MOST_STEPS;
 use model::Outcome;
 use model::Quantity;
 use model::Refusal;
@@ -27,15 +29,16 @@ fn in_range(answer: bool) -> Outcome
 
 // Whether every number above the quantities is in its range.
 fn head_within(head: Head) -> bool
-    ensures { λ r. ⌜ ask r Refusal.OutOfRange ≡ headVerdict head ⌝ }
+    ensures { λ r. ⌜ ask r Refusal.OutOfRange ≡ headVerdict most-steps head ⌝ }
 {
     if !natural_within(limits::N, head.n as u64) {
         return false;
     }
-    if !natural_within(limits::STEPS, head.steps as u64) {
+    if !natural_within(limits::steps_limits(MOST_STEPS as u32), head.steps as u64) {
         return false;
     }
-    if !within(limits::STEP, head.step) {
+    let step = head.step;
+    if !step_within(step) {
         return false;
     }
     if !natural_within(limits::TAIL, head.tail) {

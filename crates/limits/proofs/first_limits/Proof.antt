@@ -1,19 +1,16 @@
 -- `limits::first_limits` meets its contract.
 -- Assumes nothing.
-use native.Mathlib.Omega.{arith}
-use mir.Syntax.{w64}
-use mir.Facts.{toZ-pos}
-use Rattle.model.specs.Sheet.{first-limits, from_to_}
+use Rattle.model.specs.Sheet.{first-limits}
 use borrow.Author.Needs.{needs}
 use Rattle.limits.proofs.first_limits.Statement.{statement}
 use Rattle.limits.proofs.first_limits.Tie as tie
 
 returns : tie.Need-returns
-unfolding first-limits from_to_
-returns c = rw (toZ-pos w64 {n = c .args .n} (omega arith))
+unfolding first-limits
+returns c = c .from-to .ensures
 
-cast-t2 : tie.Need-cast-t2
-cast-t2 c = search needs
+from-to-requires : tie.Need-from-to-requires
+from-to-requires c κs = search needs
 
 pub first-limits-spec : {M : Type 1} → statement M
-first-limits-spec = tie.close (tie.spec cast-t2 returns)
+first-limits-spec = tie.close (tie.spec from-to-requires returns)

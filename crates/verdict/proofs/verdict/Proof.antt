@@ -3,7 +3,7 @@
 use mathlib.Core.Path.{_≡_, sym, ap, _∙_}
 use mathlib.Core.Bool.{Bool}
 use borrow.Author.Tests.{not-true, not-false}
-use Rattle.model.specs.Sheet.{Verdict, passes, verdictOutcome, ask, _then_, headVerdict, quantitiesVerdict, sheetVerdict}
+use Rattle.model.specs.Sheet.{most-steps, Verdict, passes, verdictOutcome, ask, _then_, headVerdict, quantitiesVerdict, sheetVerdictTo, sheetVerdict}
 use Rattle.model.specs.declared.Refusal.the-variants.{OutOfRange}
 use Rattle.model.proofs.Verdicts.{few-quantities}
 use Rattle.verdict.proofs.Verdicts.{passes-as, refused-first, verdict-numbered}
@@ -14,7 +14,7 @@ use Rattle.verdict.proofs.verdict.Tie as tie
 head-answer : {answer b : Bool} {v : Verdict} → ask answer OutOfRange ≡ v → answer ≡ b → v ≡ ask b OutOfRange
 head-answer asked e = sym asked ∙ ap (λ (b : Bool). ask b OutOfRange) e
 
-head-passed : (c : tie.Else1) → headVerdict (c .before .before .before .args .sheet .head) ≡ passes
+head-passed : (c : tie.Else1) → headVerdict most-steps (c .before .before .before .args .sheet .head) ≡ passes
 unfolding ask
 head-passed c = head-answer (c .before .head-within .ensures) (not-false (c .before .head-within .result) (c .if1 .left))
 
@@ -22,7 +22,7 @@ quantities-passed : (c : tie.After-enum-told2) → quantitiesVerdict (c .before 
 quantities-passed c = passes-as _ (c .before .before .quantities-verdict .ensures) (c .enum-told2 .given .1)
 
 returns : tie.Need-returns
-unfolding sheetVerdict _then_ ask
+unfolding sheetVerdictTo _then_ ask
 returns c =
     let sheet = c .before .before .before .before .args .sheet in
     verdict-numbered (sheetVerdict sheet)
@@ -30,7 +30,7 @@ returns c =
     (c .in-range .ensures))
 
 returns-2 : tie.Need-returns-2
-unfolding sheetVerdict _then_
+unfolding sheetVerdictTo _then_
 returns-2 c =
     let sheet = c .before .before .before .before .before .before .before .args .sheet in
     verdict-numbered (sheetVerdict sheet)
@@ -38,7 +38,7 @@ returns-2 c =
     (refused-first _ _ (c .before .before .quantities-verdict .ensures) (c .enum-told .given .1)))
 
 returns-3 : tie.Need-returns-3
-unfolding sheetVerdict _then_
+unfolding sheetVerdictTo _then_
 returns-3 c =
     let after-quantities = c .before .before .before in
     let sheet = after-quantities .before .before .before .before .before .before .before .args .sheet in
@@ -53,7 +53,7 @@ in-range-requires : tie.Need-in-range-requires
 in-range-requires c κs = search needs
 
 quantities-verdict-requires : tie.Need-quantities-verdict-requires
-quantities-verdict-requires c κs = few-quantities _ (head-passed (c .before))
+quantities-verdict-requires c κs = few-quantities most-steps _ (head-passed (c .before))
 
 enum-told : tie.Need-enum-told
 enum-told c = search needs
@@ -62,7 +62,7 @@ enum-told-2 : tie.Need-enum-told-2
 enum-told-2 c = search needs
 
 terms-within-requires : tie.Need-terms-within-requires
-terms-within-requires c κs = few-quantities _ (head-passed (c .before .before .before .before .before))
+terms-within-requires c κs = few-quantities most-steps _ (head-passed (c .before .before .before .before .before))
 
 in-range-requires-2 : tie.Need-in-range-requires-2
 in-range-requires-2 c κs = search needs

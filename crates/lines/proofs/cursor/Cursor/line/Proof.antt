@@ -5,14 +5,14 @@ use mathlib.Core.Option.{some}
 use denote.Ref.{now}
 use mir.Facts.{toZ-ofZ}
 use Rattle.model.specs.Reading.{after, ended}
-use Rattle.lines.specs.Places.{rest, foundAfter, spelledAt, lineAt, lineAfter}
+use Rattle.lines.specs.Places.{rest, foundAfter, spelledAt, lineAfter}
 use Rattle.lines.proofs.Spellings.{read-as}
 use borrow.Author.Needs.{needs}
 use Rattle.lines.proofs.cursor.Cursor.line.Statement.{statement}
 use Rattle.lines.proofs.cursor.Cursor.line.Tie as tie
 
 returns : tie.Need-returns
-unfolding lineAt lineAfter foundAfter
+unfolding lineAfter foundAfter spelledAt
 returns c =
     let at-start = c .before .before .before .before .before in
     rw (read-as (foundAfter (now (at-start .args .text))) (c .before .before .after .ensures) (c .enum-told .given .1), lineAfter)
@@ -22,7 +22,7 @@ unfolding foundAfter
 key-first c = read-as (foundAfter (now (c .before .before .before .before .before .args .text))) (c .before .before .after .ensures) (c .value .given .1)
 
 returns-2 : tie.Need-returns-2
-unfolding lineAt lineAfter spelledAt ended
+unfolding lineAfter spelledAt ended
 returns-2 c =
     let value = c .before .before .before .before in
     let at-start = value .before .before .before .before .before in

@@ -1,31 +1,45 @@
--- `lines::cursor::Cursor::whole_field` meets its contract.
+-- `lines::cursor::Cursor::whole_field` meets its contract: the line, and then its number's range.
 -- Assumes nothing.
+use mathlib.Core.Path.{_≡_, sym, _∙_}
 use denote.Ref.{now}
 use mir.Facts.{toZ-ofZ}
-use Rattle.model.specs.Reading.{faults}
-use Rattle.lines.specs.Places.{lineAt}
+use Rattle.rounding.proofs.Machine.{of-number}
+use Rattle.model.specs.Reading.{spelled}
+use Rattle.model.specs.Sheet.{within}
+use Rattle.lines.specs.Places.{rest, spelledAt, lineAfter}
 use Rattle.lines.specs.Fields.{wholeRead, wholeAfter}
-use Rattle.lines.proofs.Spellings.{read-as}
+use Rattle.lines.proofs.Spellings.{read-as, ranged-wrong, ranged-inside, ranged-outside}
 use borrow.Author.Needs.{needs}
 use Rattle.lines.proofs.cursor.Cursor.whole_field.Statement.{statement}
 use Rattle.lines.proofs.cursor.Cursor.whole_field.Tie as tie
 
 returns : tie.Need-returns
-unfolding wholeRead wholeAfter lineAt faults
+unfolding wholeRead wholeAfter spelledAt
 returns c =
-    let z = c .before in
-    rw (
-      toZ-ofZ (record { sfits = c .known-told .given .0 .1 }),
-      read-as (lineAt (now (z .before .before .before .before .before .args .text))) (z .before .before .line .ensures) (z .z .given .1),
-    )
+    let at-start = c .before .before .before .before .before in
+    sym (ranged-wrong _ (read-as (spelledAt (now (at-start .args .text))) (c .before .before .line .ensures) (c .enum-told .given .1)))
+
+-- the number of the line ..
+number-read : (c : tie.After-z) → let at-start = c .before .before .before .before .before in lineAfter (now (at-start .args .key)) (at-start .args .minus) (rest (now (at-start .args .text)) (at-start .args .self)) ≡ spelled (c .z .given .0 .0) (rest (now (at-start .args .text)) (c .z .given .0 .1 .0))
+unfolding spelledAt
+number-read c = read-as (spelledAt (now (c .before .before .before .before .before .args .text))) (c .before .before .line .ensures) (c .z .given .1)
+
+-- .. and whether it is in its limits, of the number itself and not of its bits
+number-fits : (c : tie.After-within) → c .within .result ≡ within (c .before .before .before .before .before .before .before .args .limits) (c .before .before .z .given .0 .0)
+number-fits c = of-number (within _) (record { sfits = c .before .known-told .given .0 .1 }) (c .within .ensures)
 
 returns-2 : tie.Need-returns-2
-unfolding wholeRead wholeAfter lineAt faults
-returns-2 c = rw (read-as (lineAt (now (c .before .before .before .before .before .args .text))) (c .before .before .line .ensures) (c .enum-told .given .1))
+unfolding wholeRead wholeAfter
+returns-2 c =
+    let z = c .before .before .before in
+    rw (toZ-ofZ (record { sfits = c .before .before .known-told .given .0 .1 }))
+    (sym (ranged-inside (within _) (number-read z) (sym (number-fits (c .before)) ∙ c .if1 .taken)))
 
 returns-3 : tie.Need-returns-3
-unfolding wholeRead wholeAfter lineAt faults
-returns-3 c = rw (read-as (lineAt (now (c .before .before .before .before .before .args .text))) (c .before .before .line .ensures) (c .enum-told2 .given .1))
+unfolding wholeRead wholeAfter
+returns-3 c =
+    let z = c .before .before .before in
+    sym (ranged-outside (within _) (number-read z) (sym (number-fits (c .before)) ∙ c .if1 .left))
 
 line-requires : tie.Need-line-requires
 line-requires c κs = search needs
@@ -36,10 +50,17 @@ enum-known-z c = search needs
 enum-told : tie.Need-enum-told
 enum-told c = search needs
 
-enum-told-2 : tie.Need-enum-told-2
-enum-told-2 c = search needs
+within-requires : tie.Need-within-requires
+within-requires c κs = search needs
 
 pub whole-field-spec : {M : Type 1} → statement M
 whole-field-spec =
     tie.close
-    (tie.spec line-requires enum-known-z enum-told enum-told-2 returns returns-2 returns-3)
+    (tie.spec
+    line-requires
+    enum-known-z
+    enum-told
+    returns
+    within-requires
+    returns-2
+    returns-3)
