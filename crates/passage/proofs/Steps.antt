@@ -1,16 +1,17 @@
 -- What the code's answer to a step says of the step by the definition, and one step of a sheet. Assumes nothing.
-use Prim.Native.Nat.{ℕ, _≤_, _<_}
-use mathlib.Core.Path.{_≡_, refl, ap, _∙_}
-use mathlib.Core.List.{List}
+use Prim.Native.Nat.{ℕ, zero, suc, _≤_, _<_}
+use mathlib.Core.Path.{_≡_, refl, sym, ap, _∙_}
+use mathlib.Core.List.{List, []}
 use lib.IntN.{ℤ}
 use lib.ListN.{length, getD}
-use Rattle.model.specs.Sheet.{passes, refuses, sheetVerdict, termsOf}
+use Rattle.model.specs.Sheet.{passes, refuses, sheetVerdict, termsOf, startsOf}
 use Rattle.model.specs.Step.{most-degree, no-ball, Row, stepRow, newRow, degree}
 use Rattle.model.specs.Rows.{ballIn, ballsIn, ballsOf}
-use Rattle.model.specs.Passage.{Advance, moves, stops, advanceNumber as numberMeant, advance}
+use Rattle.model.specs.Passage.{Advance, moves, stops, advanceNumber as numberMeant, advance, Run, goOn, follow, run}
 use Rattle.model.specs.declared.Ball.{Ball}
 use Rattle.model.specs.declared.Balls.{Balls}
 use Rattle.model.specs.declared.Sheet.{Sheet}
+use Rattle.model.specs.declared.Outcome.the-variants.{Accepted}
 use Rattle.model.specs.declared.Term.{Term}
 use Rattle.model.specs.declared.Refusal.{Refusal}
 use Rattle.model.proofs.Degree.{least-le}
@@ -82,3 +83,19 @@ module _ (sheet : Sheet) (balls : List Ball) where
   pub step-of-passing : sheetVerdict sheet ≡ passes → stepOf sheet balls ≡ advance (termsOf sheet) (sheet .head .step) (sheet .head .tail) (sheet .head .tol) balls
   unfolding stepOf
   step-of-passing e = rw (e, stepOf)
+
+-- ---- a passage, step by step
+
+-- so many steps of a sheet, the first of them with this number, each from what the last one left
+pub stepwise : Sheet → ℕ → ℕ → List Ball → Run
+stepwise sheet zero step balls = record { rows = []; outcome = Accepted }
+stepwise sheet (suc left) step balls = goOn (stepOf sheet balls) step (λ row. stepwise sheet left (suc step) (row .balls))
+
+-- one step by itself is a step of the passage: taken one after the other they are the run
+pub run-is-stepwise : (sheet : Sheet) → sheetVerdict sheet ≡ passes → run sheet ≡ stepwise sheet (sheet .head .steps) 1 (startsOf sheet)
+unfolding run stepwise follow
+run-is-stepwise sheet e = go (sheet .head .steps) 1 (startsOf sheet)
+  where
+    go : (left step : ℕ) (balls : List Ball) → follow (termsOf sheet) (sheet .head .step) (sheet .head .tail) (sheet .head .tol) left step balls ≡ stepwise sheet left step balls
+    go zero step balls = refl
+    go (suc left) step balls = λ t. goOn (sym (step-of-passing sheet balls e) t) step (λ row. go left (suc step) (row .balls) t)
