@@ -1,6 +1,6 @@
-"""Demand 3 run on random small passages: exact states from rational starts inside the radii, at
-degrees no lower than printed, lie within every printed radius. Prints how much of the radius the
-exact states use. Exits 1 at the first state outside.
+"""Demand 3 run on random small passages, forecasts and hindcasts in turn: exact states from rational
+starts inside the radii, at degrees no lower than printed, lie within every printed radius. Prints how
+much of the radius the exact states use. Exits 1 at the first state outside.
 
 usage: measure.py REFERENCE SEED COUNT      (REFERENCE is the second program's path)
 """
@@ -9,6 +9,7 @@ import random
 import subprocess
 import sys
 from fractions import Fraction
+from itertools import cycle
 from statistics import median
 
 from exact_sum import SCALE, exact_sum, lies_within
@@ -17,10 +18,11 @@ LIMIT = 1 << 29
 MOST_BITS = 40_000  # Exact states with longer denominators than this are not carried further.
 EXACT, EXACT_WIDE_TAIL = "start exact, tail 2 to 100", "start exact, tail 1,000 and up"
 INSIDE, ENDS = "start anywhere inside", "start at its ends"
+FORWARD, BACK = 1, -1
 
 
-def random_passage(rng):
-    """A passage of one to three quantities, one to four terms and one to four steps."""
+def random_passage(rng, direction):
+    """A passage of one to three quantities, one to four terms and one to four steps, forward or back."""
     n = rng.randint(1, 3)
     reach = rng.choice([SCALE // 100, SCALE, 4 * SCALE, 30 * SCALE])
     widest = rng.choice([1, 1000, SCALE // 25, reach // 20])
@@ -33,7 +35,7 @@ def random_passage(rng):
         terms.append((rng.randint(1, n), rng.randint(-strongest, strongest), first, second))
     return {
         "steps": rng.choice([1, 1, 2, 3, 4]),
-        "step": longest_step(starts, terms, rng.uniform(0.01, 0.5)),
+        "step": direction * longest_step(starts, terms, rng.uniform(0.01, 0.5)),
         "tail": rng.choice([2, 10, 100, 1000, 10_000, 100_000, 1_000_000]),
         "starts": starts,
         "terms": terms,
@@ -41,7 +43,7 @@ def random_passage(rng):
 
 
 def longest_step(starts, terms, ratio):
-    """About the longest step whose ratio is at most `ratio`."""
+    """About the length of the longest step whose ratio is at most `ratio`."""
     scale = max([SCALE] + [abs(value) + radius for value, radius in starts]) / SCALE
     sizes = {}
     for to, coef, first, second in terms:
@@ -99,36 +101,39 @@ def trials(rng, passage):
 
 
 class Shares:
-    """Used parts of radii, |exact - value| / radius, sorted into ranges."""
+    """Used parts of radii, |exact - value| / radius, of each direction, sorted into ranges."""
 
     EDGES = [0.001, 0.01, 0.1, 0.2, 0.3, 0.4, 0.5, 0.6, 0.7, 0.8, 0.9, 1]
 
     def __init__(self):
-        self.used = []
+        self.used = {FORWARD: [], BACK: []}
         self.radii = []
 
-    def add(self, state, values, radii):
+    def add(self, direction, state, values, radii):
         for number, value, radius in zip(state, values, radii):
             if radius:
-                self.used.append(float(abs(SCALE * number - value) / radius))
+                self.used[direction].append(float(abs(SCALE * number - value) / radius))
                 self.radii.append(radius)
 
     def column(self):
+        used = self.used[FORWARD] + self.used[BACK]
         counts = [0] * len(self.EDGES)
-        for used in self.used:
-            counts[next(i for i, edge in enumerate(self.EDGES) if used <= edge)] += 1
-        shares = [f"{100 * count / len(self.used):.1f} %" for count in counts]
+        for part in used:
+            counts[next(i for i, edge in enumerate(self.EDGES) if part <= edge)] += 1
+        shares = [f"{100 * count / len(used):.1f} %" for count in counts]
+        medians = [median(parts) for parts in (used, self.used[FORWARD], self.used[BACK])]
         return shares + [
-            f"{median(self.used):.5f}",
-            f"{max(self.used):.4f}",
+            *(f"{part:.5f}" for part in medians),
+            f"{max(used):.4f}",
             f"{median(self.radii):.0f}",
-            len(self.used),
+            len(used),
         ]
 
 
 def print_table(columns):
     names = [f"up to {edge}" for edge in Shares.EDGES]
-    names += ["median part", "largest part", "median radius, in units", "radii measured"]
+    names += ["median part", "median part of forecasts", "median part of hindcasts"]
+    names += ["largest part", "median radius, in units", "radii measured"]
     print("| part of the radius used | " + " | ".join(columns) + " |")
     print("|---|" + "---:|" * len(columns))
     for name, *cells in zip(names, *(shares.column() for shares in columns.values())):
@@ -139,6 +144,7 @@ def check(rng, rows, passage, state, shares):
     """Carries an exact state along the printed rows; gives back the number of rows it went, or
     None where it leaves a radius."""
     gone = 0
+    direction = BACK if passage["step"] < 0 else FORWARD
     for degree, values, radii in rows:
         degree += rng.choice([0, 0, 1, 2, 5])
         bits = max(number.denominator.bit_length() for number in state) + SCALE.bit_length()
@@ -147,7 +153,7 @@ def check(rng, rows, passage, state, shares):
         state = exact_sum(state, passage["terms"], passage["step"], degree)
         if not lies_within(state, values, radii):
             return None
-        shares.add(state, values, radii)
+        shares.add(direction, state, values, radii)
         gone += 1
     return gone
 
@@ -156,17 +162,20 @@ def main():
     reference, seed, count = sys.argv[1], int(sys.argv[2]), int(sys.argv[3])
     rng = random.Random(seed)
     columns = {title: Shares() for title in (EXACT, EXACT_WIDE_TAIL, INSIDE, ENDS)}
-    states = 0
-    for _ in range(count):
-        for title, passage, state in trials(rng, random_passage(rng)):
+    states = {FORWARD: 0, BACK: 0}
+    for _, direction in zip(range(count), cycle([FORWARD, BACK])):
+        for title, passage, state in trials(rng, random_passage(rng, direction)):
             rows = printed_rows(reference, passage)
             gone = check(rng, rows, passage, state, columns[title])
             if gone is None:
                 print(f"outside a printed radius ({title}):\n{sheet_text(passage)}", end="")
                 return 1
-            states += gone
+            states[direction] += gone
     print_table(columns)
-    print(f"{states} exact states of {3 * count} passages from seed {seed}, all within their radii")
+    print(
+        f"{sum(states.values())} exact states of {3 * count} passages from seed {seed}, "
+        f"{states[BACK]} of them in hindcasts, all within their radii"
+    )
     return 0
 
 

@@ -1,13 +1,13 @@
 //! Random trials from a seed: valid sheets over the whole range of every field, sheets steered to the
-//! edge of each question, and damaged ones.
+//! edge of each question, and damaged ones. Half of the steps go back.
 
 use crate::passage;
 use crate::random::Random;
 use crate::rounding::SCALE_SIZE;
 use crate::rows;
 use crate::sheet::{
-    COEF, LIMIT, MOST_BYTES, QUANTITIES, RADIUS, START, STEP, STEPS, Sheet, Start, TAIL, TERMS,
-    TOL, Term, read,
+    COEF, LIMIT, MOST_BYTES, QUANTITIES, RADIUS, START, STEP_LENGTH, STEPS, Sheet, Start, TAIL,
+    TERMS, TOL, Term, read,
 };
 use crate::step::{MOST_RATIO, ratio};
 use std::fmt::Write;
@@ -36,16 +36,16 @@ impl Iterator for Trials {
 
     fn next(&mut self) -> Option<Trial> {
         let random = &mut self.random;
-        let sheet = match random.below(20) {
+        let sheet = match random.below(22) {
             0..=2 => text(&anywhere(random)),
             3..=5 => text(&calm(random)),
-            6..=8 => text(&at_the_ratio(random)),
-            9 | 10 => text(&at_the_tolerance(random)),
-            11 => text(&at_the_limit_from_the_start(random)),
-            12 => text(&at_the_limit_later(random)),
-            13 => text(&of_high_degree(random)),
-            14 => missing_reading(random),
-            15 => over_long(random),
+            6..=9 => text(&at_the_ratio(random)),
+            10 | 11 => text(&at_the_tolerance(random)),
+            12 => text(&at_the_limit_from_the_start(random)),
+            13 | 14 => text(&at_the_limit_later(random)),
+            15 => text(&of_high_degree(random)),
+            16 => missing_reading(random),
+            17 => over_long(random),
             _ => damaged(random),
         };
         let needed = read(&sheet).map_or(0, |sheet| sheet.places());
@@ -100,12 +100,17 @@ fn anywhere(random: &mut Random) -> Sheet {
     let terms = terms.collect();
     Sheet {
         steps: random.spread(STEPS),
-        step: random.spread(STEP),
+        step: direction(random) * random.spread(STEP_LENGTH),
         tail: random.spread(TAIL),
         tol: random.spread(TOL),
         starts,
         terms,
     }
+}
+
+/// Forward or back, one as often as the other: a step of length 1.
+fn direction(random: &mut Random) -> i64 {
+    random.of(&[-1, 1])
 }
 
 /// A term of a random shape to one of `n` quantities, its factors among the first `factors`.
@@ -150,7 +155,7 @@ fn calm_of(random: &mut Random, n: i64, factors: i64, reach: i64) -> Sheet {
     let most_steps = random.of(&[2, 6, 6, 6, 40, 400]);
     let mut sheet = Sheet {
         steps: random.even(1..=most_steps),
-        step: 1,
+        step: direction(random),
         tail: random.spread(TAIL),
         tol: LIMIT,
         starts,
@@ -170,17 +175,20 @@ fn scale(sheet: &Sheet) -> u64 {
     sizes.fold(SCALE_SIZE, u64::max)
 }
 
-/// The longest step whose ratio at the scale is at most `wanted`; 1 where there is none.
+/// The longest step whose ratio at the scale is at most `wanted`, in the direction of the sheet's own;
+/// one of length 1 where there is none.
 fn longest_step(sheet: &Sheet, scale: u64, wanted: u64) -> i64 {
     longest_step_that(sheet, |trial| ratio(trial, scale) <= wanted)
 }
 
-/// The longest step that the sheet fits with, as with every shorter one; 1 where there is none.
+/// The longest step that the sheet fits with, as with every shorter one, in the direction of its own;
+/// one of length 1 where there is none.
 pub fn longest_step_that(sheet: &Sheet, fits: impl Fn(&Sheet) -> bool) -> i64 {
-    let (mut low, mut high) = STEP.into_inner();
+    let direction = sheet.step.signum();
+    let (mut low, mut high) = STEP_LENGTH.into_inner();
     while low < high {
         let middle = (low + high + 1) / 2;
-        let step = middle;
+        let step = direction * middle;
         let trial = Sheet {
             step,
             ..sheet.clone()
@@ -191,21 +199,23 @@ pub fn longest_step_that(sheet: &Sheet, fits: impl Fn(&Sheet) -> bool) -> i64 {
             high = middle - 1;
         }
     }
-    low
+    direction * low
 }
 
-/// The longest step that question 5 lets pass, or one unit more.
+/// The longest step that question 5 lets pass, or one unit longer.
 fn at_the_ratio(random: &mut Random) -> Sheet {
     let mut sheet = calm(random);
     if random.once_in(2) {
-        // Powers of two bring the ratio to exactly one half.
+        // Powers of two bring the ratio to exactly one half, and one whole to one unit over it.
         for term in &mut sheet.terms {
-            term.coef = term.coef.signum() << random.even(18..=26);
+            let power = random.even(18..=26);
+            term.coef = term.coef.signum() << random.of(&[24, power]);
         }
         sheet.terms.truncate(1);
     }
     let longest = longest_step(&sheet, scale(&sheet), MOST_RATIO);
-    sheet.step = (longest + random.even(0..=1)).min(*STEP.end());
+    let length = longest.abs() + random.even(0..=1);
+    sheet.step = longest.signum() * length.min(*STEP_LENGTH.end());
     sheet
 }
 
@@ -352,7 +362,7 @@ fn swap_lines(random: &mut Random, text: &mut Vec<u8>) {
 
 /// Brings the text to the most bytes that a sheet may have, or to one more, or beyond.
 fn lengthen(random: &mut Random, text: &mut Vec<u8>) {
-    let length = MOST_BYTES + random.of(&[0, 0, 1, 1, 2, 1000]);
+    let length = MOST_BYTES + random.of(&[0, 0, 0, 1, 1, 1, 2, 1000]);
     let filling = random.of(b"\n0n");
     let anywhere = random.below(text.len() + 1);
     let place = random.of(&[0, anywhere, text.len()]);
@@ -360,17 +370,21 @@ fn lengthen(random: &mut Random, text: &mut Vec<u8>) {
     text.splice(place..place, std::iter::repeat_n(filling, missing));
 }
 
-/// Puts another number, at or beyond the edge of some range or oddly spelt, into a line.
+/// Puts another number, at or beyond the edge of some range or oddly spelt, into a line: one of the head
+/// every second time, since few of a long sheet's lines are the head's.
 fn respell_number(random: &mut Random, text: &mut Vec<u8>) {
+    const HEAD_LINES: usize = 5;
     const SPELLINGS: &str = "0 1 2 7 8 9 32 33 400 401 16777216 16777217 268435456 268435457 \
         536870912 536870913 999999999 1000000000 4294967297 18446744073709551617 \
-        -0 -1 -268435456 -268435457 -536870912 -536870913 -999999999 -1000000000 \
-        007 00 -07 +1 1.0 1e3 none";
+        -0 -1 -2 -16777216 -16777217 -268435456 -268435457 -536870912 -536870913 \
+        -999999999 -1000000000 007 00 -07 +1 1.0 1e3 none";
     let mut lines: Vec<Vec<u8>> = text
         .split_inclusive(|&byte| byte == b'\n')
         .map(<[u8]>::to_vec)
         .collect();
-    let line = random.below(lines.len());
+    let head = lines.len().min(HEAD_LINES);
+    let among = random.of(&[head, lines.len()]);
+    let line = random.below(among);
     let spellings: Vec<&str> = SPELLINGS.split_whitespace().chain([""]).collect();
     let spelling = random.of(&spellings);
     let key = lines[line].iter().position(|&byte| byte == b'=');

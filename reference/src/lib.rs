@@ -1,5 +1,5 @@
-//! Document 01 implemented again, from the document alone: read a sheet, run a passage into a lent
-//! buffer, print the answer. The proved planner is compared with it, byte for byte.
+//! Document 01 with its changes, implemented again from the documents alone: read a sheet, run a passage
+//! into a lent buffer, print the answer. The proved planner is compared with it, byte for byte.
 
 pub mod answer;
 pub mod compare;

@@ -14,7 +14,8 @@ pub const LIMIT: i64 = 1 << 29;
 
 pub const QUANTITIES: RangeInclusive<i64> = 1..=MOST_QUANTITIES as i64;
 pub const STEPS: RangeInclusive<i64> = 1..=400;
-pub const STEP: RangeInclusive<i64> = 1..=1 << 24;
+/// A step's length, |H|: it goes forward, or with a minus back.
+pub const STEP_LENGTH: RangeInclusive<i64> = 1..=1 << 24;
 pub const TAIL: RangeInclusive<i64> = 2..=1 << 24;
 pub const TOL: RangeInclusive<i64> = 1..=LIMIT;
 pub const START: RangeInclusive<i64> = -LIMIT..=LIMIT;
@@ -54,7 +55,7 @@ pub struct Term {
     pub second: i64,
 }
 
-/// A passage as numbers.
+/// A passage as numbers: a forecast, or a hindcast where `step` is below 0.
 #[derive(Clone, Debug, PartialEq, Eq)]
 pub struct Sheet {
     pub steps: i64,
@@ -81,7 +82,7 @@ impl Sheet {
         let n = self.starts.len() as i64;
         within(n, QUANTITIES)?;
         within(self.steps, STEPS)?;
-        within(self.step, STEP)?;
+        step_within(self.step)?;
         within(self.tail, TAIL)?;
         within(self.tol, TOL)?;
         for start in &self.starts {
@@ -107,7 +108,7 @@ pub fn read(sheet: &[u8]) -> Result<Sheet, Refusal> {
     let mut lines = Lines { rest: sheet };
     let n = lines.plain("n", QUANTITIES)?;
     let steps = lines.plain("steps", STEPS)?;
-    let step = lines.plain("step", STEP)?;
+    let step = step_within(signed_number(lines.value("step")?)?)?;
     let tail = lines.plain("tail", TAIL)?;
     let tol = lines.plain("tol", TOL)?;
     let mut starts = Vec::with_capacity(n as usize);
@@ -146,6 +147,12 @@ pub fn read(sheet: &[u8]) -> Result<Sheet, Refusal> {
 /// Where `first` is 0, any `second` but 0 is out of range.
 fn second_range(first: i64, n: i64) -> RangeInclusive<i64> {
     if first == 0 { 0..=0 } else { 0..=n }
+}
+
+/// A step is in its range where its length is, forward or back; 0 is not.
+fn step_within(step: i64) -> Result<i64, Refusal> {
+    within(step.saturating_abs(), STEP_LENGTH)?;
+    Ok(step)
 }
 
 fn within(number: i64, range: RangeInclusive<i64>) -> Result<i64, Refusal> {

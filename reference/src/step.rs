@@ -57,7 +57,7 @@ pub fn ratio(sheet: &Sheet, scale: u64) -> u64 {
         .iter()
         .map(|[none, one, two]| up(SCALE_SIZE * none, scale) + one + up(scale * two, SCALE_SIZE));
     let largest = sizes.max().unwrap_or(0);
-    up(largest * sheet.step as u64, SCALE_SIZE)
+    up(largest * sheet.step.unsigned_abs(), SCALE_SIZE)
 }
 
 fn factors(term: &Term) -> usize {
@@ -148,10 +148,11 @@ impl Coefficients {
     }
 }
 
-/// v and g: a product S with error F, times the step, times the term's coefficient.
+/// v and g: a product S with error F, times the step, times the term's coefficient. Only the values have
+/// the step's sign; the errors have its length.
 fn scaled(step: i64, coef: i64, s: i64, f: u64) -> (i64, u64) {
     let q = near(step * s, SCALE);
-    let error = up(step as u64 * f, SCALE_SIZE) + 1;
+    let error = up(step.unsigned_abs() * f, SCALE_SIZE) + 1;
     let v = near(coef * q, SCALE);
     let g = up(coef.unsigned_abs() * error, SCALE_SIZE) + 1;
     (v, g)

@@ -35,6 +35,23 @@ fn one_thing_varies_at_a_time() {
     assert_eq!(variants.iter().map(measures).collect::<Vec<_>>(), expected);
 }
 
+/// The degree of a first step depends on its length, not on its direction.
+#[test]
+fn a_hindcast_varies_by_the_same_lengths() {
+    let forecast = largest();
+    let hindcast = Sheet {
+        step: -forecast.step,
+        ..largest()
+    };
+    let pairs = variants(&forecast).into_iter().zip(variants(&hindcast));
+    for (forward, back) in pairs {
+        assert_eq!(back.sheet.step, -forward.sheet.step);
+        assert_eq!(back.sheet.steps, forward.sheet.steps);
+        assert_eq!(back.sheet.terms, forward.sheet.terms);
+    }
+    assert_eq!(variants(&hindcast).len(), variants(&forecast).len());
+}
+
 #[test]
 fn a_varied_sheet_says_what_was_varied() {
     for Variant { varied, sheet } in variants(&largest()) {

@@ -1,11 +1,13 @@
-//! The random sheets reach what they are made for: every result, and both sides of every edge.
+//! The random sheets reach what they are made for: every result, and both sides of every edge, by
+//! forecasts and by hindcasts.
 
 use reference::compare::{Tally, reference};
 use reference::generate::{Trial, Trials, text};
 use reference::passage::{run, start};
 use reference::rounding::SCALE_SIZE;
-use reference::sheet::{LIMIT, MOST_BYTES, Sheet, read};
+use reference::sheet::{LIMIT, MOST_BYTES, Refusal, Sheet, read};
 use reference::step::{MOST_RATIO, State, advance, ratio};
+use std::collections::HashMap;
 
 const COUNT: usize = 20_000;
 
@@ -79,23 +81,113 @@ fn largest_size(state: &State) -> u64 {
     sizes.max().unwrap()
 }
 
-#[test]
-fn every_result_and_every_edge_is_met_by_hundreds() {
-    let mut tally = Tally::default();
-    let mut edges = Edges::default();
-    let (mut longest, mut one_byte_longer) = (0, 0);
-    for trial in Trials::from_seed(1).take(COUNT) {
-        tally.count(&reference(&trial, -1));
-        longest += usize::from(trial.sheet.len() == MOST_BYTES);
-        one_byte_longer += usize::from(trial.sheet.len() == MOST_BYTES + 1);
+/// What the sheets of one direction met.
+#[derive(Debug, Default)]
+struct Met {
+    sheets: usize,
+    rows: usize,
+    tally: Tally,
+    edges: Edges,
+    longest: usize,
+    one_byte_longer: usize,
+}
+
+impl Met {
+    fn meet(&mut self, trial: &Trial) {
+        let outcome = reference(trial, -1);
+        self.sheets += 1;
+        self.rows += outcome.ending().rows;
+        self.tally.count(&outcome);
+        self.longest += usize::from(trial.sheet.len() == MOST_BYTES);
+        self.one_byte_longer += usize::from(trial.sheet.len() == MOST_BYTES + 1);
         if let Ok(sheet) = read(&trial.sheet) {
-            edges.meet(&sheet);
+            self.edges.meet(&sheet);
         }
     }
-    println!("{tally:?}\n{edges:?}\n{longest} {one_byte_longer}");
-    assert!(tally.results.into_iter().all(|count| count >= 200));
-    assert!(edges.least() >= 200);
-    assert!(longest.min(one_byte_longer) >= 200);
+}
+
+/// The number of a sheet's line `step=`, however it is spelt; nothing where there is no such line.
+fn step_spelling(sheet: &[u8]) -> &[u8] {
+    let mut lines = sheet.split(|&byte| byte == b'\n');
+    lines
+        .find_map(|line| line.strip_prefix(b"step="))
+        .unwrap_or_default()
+}
+
+#[test]
+fn every_result_and_every_edge_is_met_by_hundreds_of_each_direction() {
+    let (mut forecasts, mut hindcasts) = (Met::default(), Met::default());
+    for trial in Trials::from_seed(1).take(COUNT) {
+        if step_spelling(&trial.sheet).starts_with(b"-") {
+            hindcasts.meet(&trial);
+        } else {
+            forecasts.meet(&trial);
+        }
+    }
+    for met in [forecasts, hindcasts] {
+        println!("{met:?}");
+        assert!(met.sheets >= COUNT / 3);
+        assert!(met.rows >= 20_000);
+        assert!(met.tally.results.into_iter().all(|count| count >= 200));
+        assert!(met.edges.least() >= 200);
+        assert!(met.longest.min(met.one_byte_longer) >= 200);
+    }
+}
+
+#[test]
+fn the_ends_of_a_steps_range_and_its_misspellings_are_met() {
+    let mut met: HashMap<Vec<u8>, usize> = HashMap::new();
+    for trial in Trials::from_seed(1).take(COUNT) {
+        let spelling = step_spelling(&trial.sheet).to_vec();
+        *met.entry(spelling).or_default() += 1;
+    }
+    let range = "-16777217 -16777216 -1 0 1 16777216 16777217".split(' ');
+    let misspellings = "-0 -07 -1000000000 none".split(' ');
+    for spelling in range.chain(misspellings) {
+        let count = met.get(spelling.as_bytes()).copied().unwrap_or(0);
+        println!("step={spelling}: {count}");
+        assert!(count >= 5, "step={spelling}: {count}");
+    }
+}
+
+/// The sheet with its step in the other direction.
+fn turned_round(sheet: &Sheet) -> Sheet {
+    Sheet {
+        step: -sheet.step,
+        ..sheet.clone()
+    }
+}
+
+/// Every size takes the step's length, and `near` does the same on both sides of 0: the first step back
+/// has the degree and the radii, or the refusal, of the first step forward.
+#[test]
+fn a_first_step_has_the_same_degree_and_radii_forward_and_back() {
+    let first_step = |sheet: &Sheet| {
+        let row = advance(sheet, &start(sheet))?;
+        Ok::<_, Refusal>((row.degree, row.state.radii))
+    };
+    let sheets = Trials::from_seed(4).take(5000);
+    for sheet in sheets.filter_map(|trial| read(&trial.sheet).ok()) {
+        let turned = turned_round(&sheet);
+        assert_eq!(first_step(&sheet), first_step(&turned), "{sheet:?}");
+    }
+}
+
+/// Going back along some rates is going forward along the opposite ones.
+#[test]
+fn a_passage_is_the_same_with_its_step_and_all_coefficients_turned_round() {
+    let sheets = Trials::from_seed(5).take(5000);
+    for sheet in sheets.filter_map(|trial| read(&trial.sheet).ok()) {
+        let mut turned = turned_round(&sheet);
+        for term in &mut turned.terms {
+            term.coef = -term.coef;
+        }
+        let rows = |sheet: &Sheet| {
+            let mut rows = vec![i64::MIN; sheet.places()];
+            (run(sheet, &mut rows), rows)
+        };
+        assert_eq!(rows(&sheet), rows(&turned), "{sheet:?}");
+    }
 }
 
 #[test]

@@ -1,4 +1,5 @@
-//! Document 01's worked cases A to J and the ones it only runs. (Case I stands beside the roundings.)
+//! Document 01's worked cases A to J and the ones it only runs, and hindcasts. (Case I stands beside the
+//! roundings.)
 
 use reference::answer::answer;
 use reference::passage::{Refused, run};
@@ -108,6 +109,61 @@ fn case_j() {
     let refusal = Refusal::BufferTooShort;
     assert_eq!(run(&sheet, &mut short), Err(Refused { refusal, at: 0 }));
     assert_eq!(short, [MARK; 5]);
+}
+
+#[test]
+fn case_a_as_a_hindcast() {
+    let sheet = edited(&[("step=4194304", "step=-4194304")]);
+    assert_eq!(answer_of(&sheet), one_row(2, 13631488, 349534));
+}
+
+#[test]
+fn case_d_as_a_hindcast() {
+    let at_the_limit = edited(&[("step=4194304", "step=-8388608")]);
+    assert!(answer_of(&at_the_limit).starts_with("row=1\ndegree=6\n"));
+    let beyond = edited(&[("step=4194304", "step=-8388609")]);
+    assert_eq!(answer_of(&beyond), refused(7, 1));
+}
+
+/// A minus is all that `step` has from `start`, and 0 is out of its range.
+#[test]
+fn a_step_may_have_a_minus() {
+    let step = |number| answer_of(&edited(&[("step=4194304", &format!("step={number}"))]));
+    for misspelt in ["-0", "none", "-", "--1", "+1", "-04194304", "-1000000000"] {
+        assert_eq!(step(misspelt), refused(2, 0), "{misspelt}");
+    }
+    for out_of_range in ["0", "-16777217", "16777217", "-999999999"] {
+        assert_eq!(step(out_of_range), refused(3, 0), "{out_of_range}");
+    }
+    for a_whole in ["-16777216", "16777216"] {
+        assert_eq!(step(a_whole), refused(7, 1), "{a_whole}");
+    }
+    for a_unit in ["-1", "1"] {
+        assert_eq!(step(a_unit), one_row(0, 16777216, 2), "{a_unit}");
+    }
+}
+
+#[test]
+fn a_step_in_numbers_has_the_same_range() {
+    let sheet = read(CASE_A.as_bytes()).unwrap();
+    let with_step = |step| Sheet {
+        step,
+        ..sheet.clone()
+    };
+    for step in [-16777216, -1, 1, 16777216] {
+        assert_eq!(with_step(step).check(), Ok(()), "{step}");
+    }
+    let refusal = Refusal::OutOfRange;
+    for step in [i64::MIN, -16777217, 0, 16777217, i64::MAX] {
+        assert_eq!(with_step(step).check(), Err(refusal), "{step}");
+        let mut rows = [MARK; 3];
+        let refused = run(&with_step(step), &mut rows);
+        assert_eq!(refused, Err(Refused { refusal, at: 0 }), "{step}");
+        assert_eq!(rows, [MARK; 3]);
+    }
+    let mut rows = [MARK; 3];
+    assert_eq!(run(&with_step(-4194304), &mut rows), Ok(()));
+    assert_eq!(rows, [2, 13631488, 349534]);
 }
 
 #[test]
