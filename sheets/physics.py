@@ -22,6 +22,7 @@ def tide(rate, height, speed, time):
 
 
 def tide_over_sill(start, coefs, time):
+    """Two such motions and the level that rises with both; before the start where the time is below 0."""
     lunar = tide(coefs[0], start[0], start[1], time)
     solar = tide(coefs[2], start[2], start[3], time)
     level = start[4] + lunar[0] - start[0] + solar[0] - start[2]
@@ -80,7 +81,7 @@ def van_der_pol(start, coefs, time):
     def rates(y, slope):
         return slope, (1 - y * y) * slope - y
 
-    steps = max(1, round(2000 * time))
+    steps = max(1, round(2000 * abs(time)))
     h = time / steps
     y, slope = start[0], start[1]
     for _ in range(steps):
@@ -105,6 +106,7 @@ FORMS = {
     ],
     "jacobi": jacobi,
     "logarithm": lambda start, coefs, time: [log(time + 1), 1 / (time + 1)],
+    "mark-at-quay": tide_over_sill,
     "ship-losing-way": ship_losing_way,
     "square": lambda start, coefs, time: [1 / (1 - time)],
     "tide-by-feedback": tide_by_feedback,
