@@ -4,7 +4,7 @@ use mathlib.Core.Path.{_≡_, refl, sym, ap, _∙_}
 use mathlib.Core.List.{List, []}
 use lib.IntN.{ℤ}
 use lib.ListN.{length, getD}
-use Rattle.model.specs.Sheet.{passes, refuses, sheetVerdict, termsOf, startsOf}
+use Rattle.model.specs.Sheet.{Verdict, passes, refuses, sheetVerdict, termsOf, startsOf}
 use Rattle.model.specs.Step.{most-degree, no-ball, Row, stepRow, newRow, degree}
 use Rattle.model.specs.Rows.{ballIn, ballsIn, ballsOf}
 use Rattle.model.specs.Passage.{Advance, moves, stops, advanceNumber as numberMeant, advance, Run, goOn, follow, run}
@@ -82,7 +82,8 @@ module _ (sheet : Sheet) (balls : List Ball) where
 
   pub step-of-passing : sheetVerdict sheet ≡ passes → stepOf sheet balls ≡ advance (termsOf sheet) (sheet .head .step) (sheet .head .tail) (sheet .head .tol) balls
   unfolding stepOf
-  step-of-passing e = rw (e, stepOf)
+  step-of-passing e =
+      ap (λ (verdict : Verdict). elim verdict [ refuses r ↦ stops r | passes ↦ advance (termsOf sheet) (sheet .head .step) (sheet .head .tail) (sheet .head .tol) balls ]) e
 
 -- ---- a passage, step by step
 
