@@ -64,7 +64,7 @@ module _ (terms : List Term) (H : ℤ) (balls : List Ball) (state : State) (star
   coefficients-enclosed d k i h = still-enclosed d k i h (up-to d k i h)
 
   -- order k of the exact sum's own recursion, against the table of all d orders
-  summand-enclosed : (d k i : ℕ) → k ≤ d → SummandInside H D k (order (orders k) k i) (coefficient (table d) k i)
+  pub summand-enclosed : (d k i : ℕ) → k ≤ d → SummandInside H D k (order (orders k) k i) (coefficient (table d) k i)
   summand-enclosed d k i h = rw (coefficients-grow terms H balls .stays d k i h) (up-to d k i h)
 
   sums-enclosed-to : (d K i : ℕ) → K ≤ d → Within (pos scale *ℤ sumNumerator terms state H scale K i) (sumDenominator D scale K) (sumℤ (suc K) (λ k. coefficient (table d) k i .value)) (sum (suc K) (λ k. coefficient (table d) k i .radius))

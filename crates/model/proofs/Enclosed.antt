@@ -1,6 +1,6 @@
 -- One step: the row encloses the exact sum of every degree no lower than its own, from every state within the balls it started from.
 -- The coefficients enclose the sum of the row's degree, and the tail covers the rest. Assumes nothing.
-use Prim.Native.Nat.{ℕ, zero, suc, _+_, _*_, _≤_, _<_}
+use Prim.Native.Nat.{ℕ, zero, suc, _+_, _*_, _^_, _≤_, _<_}
 use mathlib.Core.Bool.{true}
 use mathlib.Core.List.{List}
 use mathlib.Core.Path.{_≡_, sym, ap, _∙_}
@@ -8,14 +8,14 @@ use native.Mathlib.Nat.{le-trans, mul-pos, mul-le-mul-right, le-of-mul-le-mul-ri
 use native.Mathlib.Decide.{decLt}
 use native.Mathlib.Omega.{arith}
 use borrow.Author.Tests.{leb-true}
-use lib.IntN.{ℤ, pos, natAbs, _+ℤ_, _-ℤ_, _*ℤ_}
+use lib.IntN.{ℤ, pos, natAbs, _+ℤ_, _-ℤ_, _*ℤ_, pow}
 use lib.ListN.{length, getD, List·getD-eq-default}
 use Rattle.rounding.specs.Enclosure.{Within}
 use Rattle.rounding.proofs.Integers.{ringℤ, abs-add, abs-mul, minus-plus, through}
 use Rattle.rounding.proofs.Roundings.{up-not-below}
 use Rattle.model.specs.Range.{largest}
 use Rattle.model.specs.Sheet.{scale}
-use Rattle.model.specs.Exact.{State, sumDenominator, sumNumerator, exactSum}
+use Rattle.model.specs.Exact.{State, order, ordersTo, sumDenominator, sumNumerator, exactSum}
 use Rattle.model.specs.Step.{Ball, no-ball, reach, greatest, size, ratio, tailAt, degree, coefficientsTo, newBall, newRow, stepRow}
 use Rattle.model.specs.Passage.{slow, most-ratio}
 use Rattle.model.specs.Trust.{LiesWithin}
@@ -44,10 +44,15 @@ within-through {u} {v} m n {c} {e} t positive w far = record { off = le-of-mul-l
     scaled =
         rw (← abs-mul (v -ℤ c *ℤ pos n) (pos m), parted) (omega (arith, abs-add (v *ℤ pos m -ℤ u *ℤ pos n) ((u -ℤ c *ℤ pos m) *ℤ pos n), abs-mul (u -ℤ c *ℤ pos m) (pos n), mul-le-mul-right n (w .off)))
 
-denominator-positive : (D w K : ℕ) → 0 < D → 0 < w → 0 < sumDenominator D w K
+pub denominator-positive : (D w K : ℕ) → 0 < D → 0 < w → 0 < sumDenominator D w K
 unfolding sumDenominator
 denominator-positive D w zero h k = h
 denominator-positive D w (suc K) h k = mul-pos (denominator-positive D w K h k) (mul-pos {m = suc K} (omega arith) (mul-pos h (mul-pos scale-positive k)))
+
+-- question 5: the ratio is at most a half
+pub at-most-half : (terms : List Term) (H : ℤ) (balls : List Ball) → slow terms H balls ≡ true → 2 * ratio terms H (length balls) (greatest balls) ≤ scale
+unfolding slow most-ratio scale
+at-most-half terms H balls slowly = omega (arith, leb-true (ratio terms H (length balls) (greatest balls)) most-ratio slowly)
 
 module _ (terms : List Term) (formed : WellFormed terms) (H : ℤ) (balls : List Ball) (slowly : slow terms H balls ≡ true) (state : State) (start : LiesWithin balls state) where
   abbrev G : ℕ
@@ -74,14 +79,14 @@ module _ (terms : List Term) (formed : WellFormed terms) (H : ℤ) (balls : List
   sizes-under i h =
       le-trans (mul-le-mul-right (natAbs H) (largest-le (length balls) (λ j. size terms G (suc j)) i (rw (start .quantities) at h))) (up-not-below (largest (length balls) (λ j. size terms G (suc j)) * natAbs H) scale-positive)
 
-  below-one : q < scale
-  unfolding slow most-ratio scale
-  below-one = omega (arith, leb-true q most-ratio slowly)
+  -- the summand of order k, for every k
+  pub order-under : (k i : ℕ) → natAbs (pos scale *ℤ (order (ordersTo terms state k) k i *ℤ pow H k)) * scale ^ k ≤ G * q ^ k * sumDenominator (state .denominator) scale k
+  order-under k i = summand-under terms state H scale G q formed (scale-le-greatest balls) starts-under sizes-under k i
 
   tail-covers : (d K i : ℕ) → d ≤ K → natAbs (apart terms state H scale i d K) ≤ tailAt G q d * (sumDenominator (state .denominator) scale K * sumDenominator (state .denominator) scale d)
   unfolding summand
   tail-covers d K i h =
-      tail-covers-rest terms state H scale i G q below-one (λ k. summand-under terms state H scale G q formed (scale-le-greatest balls) starts-under sizes-under k i) d K h
+      tail-covers-rest terms state H scale i G q (omega (arith, at-most-half terms H balls slowly, scale-positive)) (λ k. order-under k i) d K h
 
   -- the exact sum of degree K, by the coefficients of the orders 0 .. d and the tail
   sum-enclosed : (d K i : ℕ) → d ≤ K → Within (pos scale *ℤ sumNumerator terms state H scale K i) (sumDenominator (state .denominator) scale K) (newBall (coefficientsTo terms H balls d) d (tailAt G q d) i .value) (newBall (coefficientsTo terms H balls d) d (tailAt G q d) i .radius)

@@ -1,5 +1,6 @@
 pub mod Cases
 pub mod Ranges
+pub mod Tests
 pub mod Tables
 pub mod Fuel
 pub mod Stores
@@ -18,6 +19,7 @@ pub mod Shares
 pub mod Invariant
 pub mod WorkingNumbers
 pub mod NextCoefficient
+pub mod Least
 pub mod Degree
 pub mod Distrust
 pub mod Turned
@@ -30,8 +32,11 @@ pub mod Readings
 pub mod NoTerms
 pub mod Enclosed
 pub mod ExactStates
+pub mod Halving
+pub mod Taken
 pub mod Trusted
 pub mod Counts
 pub mod Listed
 pub mod SheetBounds
+pub mod RowRange
 pub mod Follow

@@ -1,6 +1,6 @@
--- A passage's rows: how many there are, and that each has the sheet's n quantities. Assumes nothing.
+-- A passage's rows: one induction for what each of them has, as the sheet's n quantities, and one for how many there are. Assumes nothing.
 use Prim.Native.Nat.{ℕ, zero, suc, _+_, _≤_, _<_}
-use mathlib.Core.Path.{_≡_, refl, ap}
+use mathlib.Core.Path.{_≡_, refl, ap, _∙_}
 use mathlib.Core.Bool.{Bool, true, false}
 use mathlib.Core.List.{List}
 use native.Mathlib.Omega.{arith}
@@ -8,59 +8,64 @@ use borrow.Author.Tests.{le-leb, lt-leb, leb-true, leb-false}
 use lib.IntN.{ℤ}
 use lib.Dec.{leb}
 use lib.ListN.{length}
-use Rattle.model.specs.Sheet.{Verdict, passes, refuses, sheetVerdict, number, termsOf, startsOf}
-use Rattle.model.specs.Step.{Ball, Row, newRow, stepRow}
-use Rattle.model.specs.Passage.{Advance, moves, stops, question, small, slow, tolerable, tolerated, advance, Run, refused, goOn, follow, placesNeeded, run, passage, rowsWritten}
+use Rattle.model.specs.Sheet.{Verdict, passes, refuses, sheetVerdict, termsOf, startsOf}
+use Rattle.model.specs.Step.{Ball, Row}
+use Rattle.model.specs.Passage.{Advance, moves, stops, advance, Run, refused, goOn, follow, placesNeeded, run, passage, rowsWritten}
 use Rattle.model.specs.declared.Term.{Term}
 use Rattle.model.specs.declared.Sheet.{Sheet}
 use Rattle.model.specs.declared.Refusal.{Refusal}
-use Rattle.model.specs.declared.Refusal.the-variants.{TooFewPlaces, TooLarge, StepTooLong, Intolerable}
+use Rattle.model.specs.declared.Refusal.the-variants.{TooFewPlaces}
 use Rattle.model.specs.declared.Outcome.{Outcome}
 use Rattle.model.specs.declared.Outcome.the-variants.{Accepted, Refused}
 use Rattle.model.proofs.Ranges.{length-tabulate}
-use Rattle.model.proofs.Rows.{Wide, none, row-first}
+use Rattle.model.proofs.Rows.{Each, none, row-first, Wide}
+use Rattle.model.proofs.Taken.{quantities-stay}
 
--- ---- the rows of a passage
+-- ---- what every row of a passage has
 
--- after so many steps more from step number `step`, so many rows: all where every step moves, the earlier ones where one is refused,
--- by question 4, 5 or 6
+-- what every row has that a step from balls of n quantities moves to, every row of a run from such balls has
+module _ (terms : List Term) (H : ℤ) (limit tol n : ℕ) (P : Row → Type 0)
+    (holds : (balls : List Ball) (row : Row) → length balls ≡ n → advance terms H limit tol balls ≡ moves row → P row) where
+  go-on-each : (step : ℕ) (rest : Row → Run) (balls : List Ball) → length balls ≡ n → (next : Advance) → advance terms H limit tol balls ≡ next → ((row : Row) → length (row .balls) ≡ n → Each P (rest row .rows)) → Each P (goOn next step rest .rows)
+  unfolding goOn refused
+  go-on-each step rest balls l (moves row) e later = row-first (holds balls row l e) (later row (quantities-stay terms H limit tol balls e ∙ l))
+  go-on-each step rest balls l (stops r) e later = none
+
+  pub follow-each : (left step : ℕ) (balls : List Ball) → length balls ≡ n → Each P (follow terms H limit tol left step balls .rows)
+  unfolding follow
+  follow-each zero step balls l = none
+  follow-each (suc left) step balls l =
+      go-on-each step (λ row. follow terms H limit tol left (suc step) (row .balls)) balls l (advance terms H limit tol balls) refl (λ row m. follow-each left (suc step) (row .balls) m)
+
+pub run-each : (sheet : Sheet) (P : Row → Type 0) → ((balls : List Ball) (row : Row) → length balls ≡ sheet .head .n → advance (termsOf sheet) (sheet .head .step) (sheet .head .tail) (sheet .head .tol) balls ≡ moves row → P row) → Each P (run sheet .rows)
+unfolding run startsOf
+run-each sheet P holds =
+    follow-each (termsOf sheet) (sheet .head .step) (sheet .head .tail) (sheet .head .tol) (sheet .head .n) P holds (sheet .head .steps) 1 (startsOf sheet) (length-tabulate (sheet .head .n) _)
+
+-- ---- how many rows a passage has
+
+-- after so many steps more from step number `step`, so many rows: all where every step moves, the earlier ones where one is refused
 data Counts (left step : ℕ) : ℕ → Outcome → Type 0 where
   all : {count : ℕ} → count ≡ left → Counts left step count Accepted
-  stopped : (count : ℕ) {r : Refusal} (refusedAt : ℕ) → count + step ≡ refusedAt → count < left → 6 ≤ number r → Counts left step count (Refused r refusedAt)
+  stopped : (count : ℕ) {r : Refusal} (refusedAt : ℕ) → count + step ≡ refusedAt → count < left → Counts left step count (Refused r refusedAt)
 
-record Follows (n left step : ℕ) (run : Run) : Type 0 where
-  wide : Wide n (run .rows)
-  counts : Counts left step (length (run .rows)) (run .outcome)
-
--- what a step comes to: a row of n quantities, or refusal 6, 7 or 8
-data Steps (n : ℕ) : Advance → Type 0 where
-  moves-on : {row : Row} → length (row .balls) ≡ n → Steps n (moves row)
-  stops-at : {r : Refusal} → 6 ≤ number r → Steps n (stops r)
-
-asked : {n : ℕ} (b : Bool) (r : Refusal) {next : Advance} → 6 ≤ number r → Steps n next → Steps n (question b r next)
-unfolding question
-asked true r h s = s
-asked false r h s = stops-at h
-
-steps : (terms : List Term) (H : ℤ) (limit tol : ℕ) (balls : List Ball) → Steps (length balls) (advance terms H limit tol balls)
-unfolding advance tolerated stepRow newRow number
-steps terms H limit tol balls =
-    asked (small balls) TooLarge (omega arith) (asked (slow terms H balls) StepTooLong (omega arith) (asked (tolerable tol (stepRow terms H limit balls .balls)) Intolerable (omega arith) (moves-on (length-tabulate (length balls) _))))
+abbrev CountsOf : ℕ → ℕ → Run → Type 0
+CountsOf left step run = Counts left step (length (run .rows)) (run .outcome)
 
 counts-one-more : {left step count : ℕ} {outcome : Outcome} → Counts left (suc step) count outcome → Counts (suc left) step (suc count) outcome
 counts-one-more (all e) = all (ap suc e)
-counts-one-more (stopped count j e l h) = stopped (suc count) j (omega arith) (omega arith) h
+counts-one-more (stopped count j e l) = stopped (suc count) j (omega arith) (omega arith)
 
-goes-on : {n left step : ℕ} {a : Advance} {rest : Row → Run} → Steps n a → ((row : Row) → length (row .balls) ≡ n → Follows n left (suc step) (rest row)) → Follows n (suc left) step (goOn a step rest)
+go-on-counts : (left step : ℕ) (next : Advance) (rest : Row → Run) → ((row : Row) → CountsOf left (suc step) (rest row)) → CountsOf (suc left) step (goOn next step rest)
 unfolding goOn refused
-goes-on (moves-on {row = row} l) f = record { wide = row-first l (f row l .wide); counts = counts-one-more (f row l .counts) }
-goes-on {step = step} (stops-at h) f = record { wide = none; counts = stopped 0 step (omega arith) (omega arith) h }
+go-on-counts left step (moves row) rest later = counts-one-more (later row)
+go-on-counts left step (stops r) rest later = stopped 0 step (omega arith) (omega arith)
 
-follows : (terms : List Term) (H : ℤ) (limit tol n left step : ℕ) (balls : List Ball) → length balls ≡ n → Follows n left step (follow terms H limit tol left step balls)
+follow-counts : (terms : List Term) (H : ℤ) (limit tol left step : ℕ) (balls : List Ball) → CountsOf left step (follow terms H limit tol left step balls)
 unfolding follow
-follows terms H limit tol n zero step balls l = record { wide = none; counts = all refl }
-follows terms H limit tol n (suc left) step balls l =
-    goes-on (rw l at (steps terms H limit tol balls)) (λ row l. follows terms H limit tol n left (suc step) (row .balls) l)
+follow-counts terms H limit tol zero step balls = all refl
+follow-counts terms H limit tol (suc left) step balls =
+    go-on-counts left step (advance terms H limit tol balls) _ (λ row. follow-counts terms H limit tol left (suc step) (row .balls))
 
 -- a passage's rows: each of n quantities, as many as its outcome says, and never more than `steps`
 pub record Rows (sheet : Sheet) (run : Run) : Type 0 where
@@ -69,18 +74,22 @@ pub record Rows (sheet : Sheet) (run : Run) : Type 0 where
   pub fits : length (run .rows) ≤ sheet .head .steps
 
 pub rows-of-run : (sheet : Sheet) → Rows sheet (run sheet)
-unfolding run startsOf rowsWritten
+unfolding run rowsWritten
 rows-of-run sheet =
-    let f : Follows (sheet .head .n) (sheet .head .steps) 1 (run sheet) = follows (termsOf sheet) (sheet .head .step) (sheet .head .tail) (sheet .head .tol) (sheet .head .n) (sheet .head .steps) 1 (startsOf sheet) (length-tabulate (sheet .head .n) _) in
-    record { wide = f .wide; count = counted (f .counts); fits = few (f .counts) }
+    let counts : CountsOf (sheet .head .steps) 1 (run sheet) = follow-counts (termsOf sheet) (sheet .head .step) (sheet .head .tail) (sheet .head .tol) (sheet .head .steps) 1 (startsOf sheet) in
+    record {
+      wide = run-each sheet (λ row. length (row .balls) ≡ sheet .head .n) (λ balls row l e. quantities-stay _ _ _ _ balls e ∙ l);
+      count = counted counts;
+      fits = few counts;
+    }
   where
     counted : {count : ℕ} {outcome : Outcome} → Counts (sheet .head .steps) 1 count outcome → count ≡ rowsWritten sheet outcome
     counted (all e) = e
-    counted (stopped _ _ e l h) = omega arith
+    counted (stopped _ _ e l) = omega arith
 
     few : {count : ℕ} {outcome : Outcome} → Counts (sheet .head .steps) 1 count outcome → count ≤ sheet .head .steps
     few (all e) = omega arith
-    few (stopped _ _ e l h) = omega arith
+    few (stopped _ _ e l) = omega arith
 
 -- ---- the questions before step 1
 

@@ -8,7 +8,7 @@ use native.Mathlib.Nat.{eq-or-lt-of-le, mul-add, mul-zero, add-mul, zero-mul, on
 use native.Mathlib.Decide.{decLt, le-ind}
 use native.Mathlib.Numerals.{add-one}
 use native.Mathlib.Omega.{arith}
-use lib.IntN.{ℤ, pos, natAbs, _+ℤ_, _*ℤ_, zero-*ℤ, *ℤ-zero, +ℤ-idl}
+use lib.IntN.{ℤ, pos, natAbs, _+ℤ_, _*ℤ_, zero-*ℤ, *ℤ-zero, +ℤ-idl, +ℤ-idr}
 use lib.ListN.{length, getD, length-append, List·getD-append, List·getD-eq-default}
 use lib.Seq.{getD-at, ext-getD}
 use Rattle.rounding.specs.Enclosure.{Within}
@@ -67,6 +67,23 @@ sumℤ-zero (suc n) f h = ap₂ (λ (a b : ℤ). a +ℤ b) (sumℤ-zero n f (bel
 -- where the summands before the last are 0
 pub sumℤ-last : (n : ℕ) (f : ℕ → ℤ) → ((k : ℕ) → k < n → f k ≡ pos 0) → sumℤ (suc n) f ≡ f n
 sumℤ-last n f h = sumℤ-suc n f ∙ ap (λ (z : ℤ). z +ℤ f n) (sumℤ-zero n f h) ∙ +ℤ-idl (f n)
+
+-- where all are 0, or all but one
+pub sum-zero : (n : ℕ) (f : ℕ → ℕ) → ((k : ℕ) → k < n → f k ≡ 0) → sum n f ≡ 0
+unfolding sum
+sum-zero zero f h = refl
+sum-zero (suc n) f h = omega (arith, sum-zero n f (below n h), h n (omega arith))
+
+pub sum-single : (n i : ℕ) (f : ℕ → ℕ) → i < n → ((k : ℕ) → k < n → (k ≡ i → ⊥) → f k ≡ 0) → sum n f ≡ f i
+unfolding sum
+sum-single zero i f h rest = absurd (omega arith)
+sum-single (suc n) i f h rest =
+    ⊎-elim (λ (e : i ≡ n). rw e (omega (arith, sum-zero n f (λ k l. rest k (omega arith) (λ same. omega arith))))) (λ (l : i < n). omega (arith, sum-single n i f l (below n rest), rest n (omega arith) (λ same. omega arith))) (eq-or-lt-of-le {n = i} {m = n} (omega arith))
+
+pub sumℤ-single : (n i : ℕ) (f : ℕ → ℤ) → i < n → ((k : ℕ) → k < n → (k ≡ i → ⊥) → f k ≡ pos 0) → sumℤ n f ≡ f i
+sumℤ-single zero i f h rest = absurd (omega arith)
+sumℤ-single (suc n) i f h rest =
+    ⊎-elim (λ (e : i ≡ n). sumℤ-last n f (λ k l. rest k (omega arith) (λ same. omega arith)) ∙ ap f (sym e)) (λ (l : i < n). sumℤ-suc n f ∙ ap₂ (λ (a b : ℤ). a +ℤ b) (sumℤ-single n i f l (below n rest)) (rest n (omega arith) (λ same. omega arith)) ∙ +ℤ-idr (f i)) (eq-or-lt-of-le {n = i} {m = n} (omega arith))
 
 -- ---- a factor
 

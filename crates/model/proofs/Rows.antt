@@ -3,12 +3,11 @@
 use Prim.Native.Nat.{ℕ, zero, suc, _+_, _-_, _*_, _≤_, _<_}
 use mathlib.Core.Path.{_≡_, refl, sym, ap, _∙_}
 use mathlib.Core.List.{List, [], _∷_, _++_, flatten, append-assoc, append-nil}
-use native.Mathlib.Nat.{zero-add, zero-mul, suc-mul, mul-le-mul, mul-le-mul-right}
+use native.Mathlib.Nat.{add-zero, zero-add, zero-mul, suc-mul, mul-le-mul, mul-le-mul-right}
 use native.Mathlib.Omega.{arith}
 use lib.IntN.{ℤ, pos, natAbs}
 use lib.ListN.{length, getD, drop, length-append, length-map, length-drop, List·getD-append, List·getD-map}
 use lib.Seq.{sets, sets-eq, getD-append-add, getD-drop}
-use Rattle.model.specs.Range.{tabulate}
 use Rattle.model.specs.Sheet.{most-quantities, most-steps}
 use Rattle.model.specs.Step.{no-ball, Row}
 use Rattle.model.specs.Rows.{ballIn, ballsIn, parts, values-part, radii-part, width, degreePlace, partPlace, rowParts, rowPlaces, places, written, rowIn, rowsIn}
@@ -50,12 +49,22 @@ row-parts : (row : Row) {n : ℕ} → length (row .balls) ≡ n → Parts n part
 unfolding rowParts
 row-parts row h = part-first (length-map (row .balls) _ ∙ h) (part-first (length-map (row .balls) _ ∙ h) none)
 
--- ---- the places of rows
+-- ---- what every row has
+
+pub data Each (P : Row → Type 0) : List Row → Type 0 where
+  none : Each P []
+  row-first : {row : Row} {rows : List Row} → P row → Each P rows → Each P (row ∷ rows)
+
+pub each-at : {P : Row → Type 0} {rows : List Row} → Each P rows → (j : ℕ) → j < length rows → P (getD rows j no-row)
+each-at none j h = absurd (omega arith)
+each-at (row-first p later) zero h = p
+each-at (row-first p later) (suc j) h = each-at later j (omega arith)
 
 -- every row has n quantities
-pub data Wide (n : ℕ) : List Row → Type 0 where
-  none : Wide n []
-  row-first : {row : Row} {rows : List Row} → length (row .balls) ≡ n → Wide n rows → Wide n (row ∷ rows)
+abbrev pub Wide : ℕ → List Row → Type 0
+Wide n = Each (λ row. length (row .balls) ≡ n)
+
+-- ---- the places of rows
 
 row-length : (row : Row) {n : ℕ} → length (row .balls) ≡ n → length (rowPlaces row) ≡ width n
 unfolding rowPlaces width
@@ -69,59 +78,48 @@ places-length {n} (row-first {row = row} {rows = rows} h w) =
 
 -- ---- rows read back
 
--- row j + 1 behind a row's places is row j
-row-behind : (n : ℕ) (front rest : List ℤ) (j : ℕ) → length front ≡ width n → rowIn n (front ++ rest) (suc j) ≡ rowIn n rest j
-unfolding rowIn
-row-behind n front rest j h =
-    λ t. record {
-      degree = natAbs (moved (degreePlace n (suc j)) (degreePlace n j) (omega (arith, one-more)) t);
-      balls = tabulate n (λ i. record { value = part-moved values-part i t; radius = natAbs (part-moved radii-part i t) });
-    }
-  where
-    one-more : suc j * width n ≡ j * width n + width n
-    one-more = suc-mul j (width n)
+-- place k of row j
+row-place : {n : ℕ} {rows : List Row} → Wide n rows → (rest : List ℤ) (j k : ℕ) → j < length rows → k < width n → getD (places rows ++ rest) (degreePlace n j + k) (pos 0) ≡ getD (rowPlaces (getD rows j no-row)) k (pos 0)
+unfolding places
+row-place none rest j k h l = absurd (omega arith)
+row-place {n} (row-first {row = row} {rows = rows} wide w) rest zero k h l =
+    let front : degreePlace n 0 + k ≡ k = omega (arith, zero-mul (width n)) in
+    rw (append-assoc (rowPlaces row) (places rows) rest, front) (List·getD-append (rowPlaces row) (places rows ++ rest) (pos 0) k (omega (arith, row-length row wide)))
+row-place {n} (row-first {row = row} {rows = rows} wide w) rest (suc j) k h l =
+    let behind : degreePlace n (suc j) + k ≡ length (rowPlaces row) + (degreePlace n j + k) = omega (arith, row-length row wide, suc-mul j (width n)) in
+    rw (append-assoc (rowPlaces row) (places rows) rest, behind) (getD-append-add (rowPlaces row) (places rows ++ rest) (degreePlace n j + k) (pos 0) ∙ row-place w rest j k (omega arith) l)
 
-    moved : (k l : ℕ) → k ≡ length front + l → getD (front ++ rest) k (pos 0) ≡ getD rest l (pos 0)
-    moved k l e = rw e (getD-append-add front rest l (pos 0))
+module _ {n : ℕ} {rows : List Row} (w : Wide n rows) (buffer : List ℤ) (j : ℕ) (h : j < length rows) where
+  degree-written : getD (written rows buffer) (degreePlace n j) (pos 0) ≡ pos (getD rows j no-row .degree)
+  unfolding written rowPlaces width
+  degree-written = rw add-zero at (row-place w (drop (length (places rows)) buffer) j 0 h (omega arith))
 
-    part-moved : (p i : ℕ) → getD (front ++ rest) (partPlace n (suc j) p i) (pos 0) ≡ getD rest (partPlace n j p i) (pos 0)
-    part-moved p i = moved (partPlace n (suc j) p i) (partPlace n j p i) (omega (arith, one-more))
+  part-written : (p i : ℕ) → p < parts → i < n → getD (written rows buffer) (partPlace n j p i) (pos 0) ≡ getD (getD (rowParts (getD rows j no-row)) p []) i (pos 0)
+  unfolding written rowPlaces width
+  part-written p i l k =
+      let place : partPlace n j p i ≡ degreePlace n j + suc (p * n + i) = omega arith in
+      rw place (row-place w (drop (length (places rows)) buffer) j (suc (p * n + i)) h (omega (arith, mul-le-mul-right n l, suc-mul p n)) ∙ part-entry (row-parts (getD rows j no-row) (each-at w j h)) p i l k)
 
-row-in-front : (row : Row) (n : ℕ) (rest : List ℤ) → length (row .balls) ≡ n → rowIn n (rowPlaces row ++ rest) 0 ≡ row
-unfolding rowIn rowPlaces rowParts no-ball
-row-in-front row n rest h =
-    λ t. record {
-      degree = natAbs (at (degreePlace n 0) 0 no-rows t);
-      balls = tabulate-is n _ no-ball (row .balls) h (λ i k. λ t. record { value = value-at i k t; radius = natAbs (radius-at i k t) }) t;
-    }
-  where
-    no-rows : 0 * width n ≡ 0
-    no-rows = zero-mul (width n)
+  pub value-written : (i : ℕ) → i < n → getD (written rows buffer) (partPlace n j values-part i) (pos 0) ≡ getD (getD rows j no-row .balls) i no-ball .value
+  unfolding rowParts no-ball
+  value-written i k = part-written values-part i (omega arith) k ∙ List·getD-map (λ ball. ball .value) (getD rows j no-row .balls) i no-ball
 
-    at : (k l : ℕ) → k ≡ l → getD (rowPlaces row ++ rest) k (pos 0) ≡ getD (rowPlaces row ++ rest) l (pos 0)
-    at k l e = ap (λ (i : ℕ). getD (rowPlaces row ++ rest) i (pos 0)) e
+  pub radius-written : (i : ℕ) → i < n → getD (written rows buffer) (partPlace n j radii-part i) (pos 0) ≡ pos (getD (getD rows j no-row .balls) i no-ball .radius)
+  unfolding rowParts no-ball
+  radius-written i k = part-written radii-part i (omega arith) k ∙ List·getD-map (λ ball. pos (ball .radius)) (getD rows j no-row .balls) i no-ball
 
-    part-at : (p i : ℕ) → p < parts → i < n → getD (rowPlaces row ++ rest) (partPlace n 0 p i) (pos 0) ≡ getD (getD (rowParts row) p []) i (pos 0)
-    part-at p i l k =
-        at (partPlace n 0 p i) (suc (p * n + i)) (omega (arith, no-rows))
-        ∙ List·getD-append (flatten (rowParts row)) rest (pos 0) (p * n + i) (omega (arith, parts-length (row-parts row h), mul-le-mul-right n l, suc-mul p n))
-        ∙ part-entry (row-parts row h) p i l k
-
-    value-at : (i : ℕ) → i < n → getD (rowPlaces row ++ rest) (partPlace n 0 values-part i) (pos 0) ≡ getD (row .balls) i no-ball .value
-    value-at i k = part-at values-part i (omega arith) k ∙ List·getD-map (λ ball. ball .value) (row .balls) i no-ball
-
-    radius-at : (i : ℕ) → i < n → getD (rowPlaces row ++ rest) (partPlace n 0 radii-part i) (pos 0) ≡ pos (getD (row .balls) i no-ball .radius)
-    radius-at i k = part-at radii-part i (omega arith) k ∙ List·getD-map (λ ball. pos (ball .radius)) (row .balls) i no-ball
+  pub row-written : rowIn n (written rows buffer) j ≡ getD rows j no-row
+  unfolding rowIn
+  row-written =
+      λ t. record {
+        degree = natAbs (degree-written t);
+        balls = tabulate-is n _ no-ball (getD rows j no-row .balls) (each-at w j h) (λ i k. λ t. record { value = value-written i k t; radius = natAbs (radius-written i k t) }) t;
+      }
 
 pub rows-in-written : {n : ℕ} {rows : List Row} → Wide n rows → (buffer : List ℤ) → rowsIn n (length rows) (written rows buffer) ≡ rows
-unfolding rowsIn written places
-rows-in-written {n} {rows} w buffer = tabulate-is (length rows) (rowIn n (places rows ++ drop (length (places rows)) buffer)) no-row rows refl (λ j h. row-at w (drop (length (places rows)) buffer) j h)
-  where
-    row-at : {rows : List Row} → Wide n rows → (rest : List ℤ) (j : ℕ) → j < length rows → rowIn n (places rows ++ rest) j ≡ getD rows j no-row
-    row-at none rest j h = absurd (omega arith)
-    row-at (row-first {row = row} {rows = rows} l w) rest zero h = rw (append-assoc (rowPlaces row) (places rows) rest) (row-in-front row n (places rows ++ rest) l)
-    row-at (row-first {row = row} {rows = rows} l w) rest (suc j) h =
-        rw (append-assoc (rowPlaces row) (places rows) rest) (row-behind n (rowPlaces row) (places rows ++ rest) j (row-length row l) ∙ row-at w rest j (omega arith))
+unfolding rowsIn
+rows-in-written {n} {rows} w buffer =
+    tabulate-is (length rows) (rowIn n (written rows buffer)) no-row rows refl (λ j h. row-written w buffer j h)
 
 -- ---- the places behind the rows
 

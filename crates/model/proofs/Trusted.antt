@@ -1,29 +1,27 @@
 -- Demand 3 of a whole passage: its rows are trusted, whatever the sheet and however many places are lent.
--- One induction over the rows; each step taken had its questions answered yes. Assumes nothing.
-use Prim.Native.Nat.{ℕ, zero, suc, _≤_}
-use mathlib.Core.Bool.{Bool, true, false}
+-- One induction over the rows; each step taken had its questions answered yes. The first of such rows are trusted too. Assumes nothing.
+use Prim.Native.Nat.{ℕ, zero, suc, _≤_, _<_, max}
 use mathlib.Core.List.{List, [], _∷_}
-use mathlib.Core.Path.{_≡_, refl, ap}
+use mathlib.Core.Path.{_≡_, refl, ap, ap₂, _∙_}
 use native.Mathlib.Omega.{arith}
-use native.Mathlib.Nat.{suc-inj}
-use borrow.Author.Tests.{leb-true}
-use lib.Dec.{leb}
+use native.Mathlib.Nat.{suc-inj, le-max-right, max-eq-left}
 use lib.IntN.{ℤ}
-use lib.ListN.{length, getD}
+use lib.ListN.{length, getD, take}
+use lib.Seq.{getD-take, length-take-le}
+use Rattle.model.specs.Range.{tabulate}
 use Rattle.model.specs.Sheet.{scale, passes, sheetVerdict, termsOf, startsOf}
 use Rattle.model.specs.Exact.{State, exactSum}
-use Rattle.model.specs.Step.{Ball, no-ball, Row, stepRow}
-use Rattle.model.specs.Passage.{Advance, moves, stops, question, small, slow, tolerable, tolerated, advance, Run, refused, goOn, follow, run, passage}
-use Rattle.model.specs.Trust.{LiesWithin, Tolerated, stateAfter, NoLower, Trusted, TrustedOf}
-use Rattle.model.specs.declared.Refusal.{Refusal}
-use Rattle.model.specs.declared.Refusal.the-variants.{TooLarge, StepTooLong, Intolerable}
+use Rattle.model.specs.Step.{Ball, Row}
+use Rattle.model.specs.Passage.{Advance, moves, stops, advance, Run, refused, goOn, follow, run, passage}
+use Rattle.model.specs.Trust.{LiesWithin, Tolerated, stateAfter, no-row, NoLower, Trusted, TrustedOf}
 use Rattle.model.specs.declared.Sheet.{Sheet}
 use Rattle.model.specs.declared.Term.{Term}
 use Rattle.model.proofs.Enclosed.{step-encloses}
 use Rattle.model.proofs.Majorant.{WellFormed}
 use Rattle.model.proofs.Passages.{passage-either}
+use Rattle.model.proofs.Ranges.{below, length-tabulate, getD-tabulate}
 use Rattle.model.proofs.SheetBounds.{bounds-of-sheet}
-use Rattle.model.proofs.Verdicts.{every-holds}
+use Rattle.model.proofs.Taken.{all-tolerated, Taken, step-taken}
 
 -- ---- rows, one after the other
 
@@ -50,50 +48,51 @@ module _ (terms : List Term) (H : ℤ) where
       later : NoLower degrees rows
       later = record { each = suc-inj (lower .each); lower = λ i lt. lower .lower (suc i) (omega arith) }
 
--- ---- the questions of a step that was taken
+  -- state j looks at no more than the first j degrees
+  states-alike : (degrees longer : List ℕ) (state : State) (j : ℕ) → ((i : ℕ) → i < j → getD longer i 0 ≡ getD degrees i 0) → stateAfter terms H longer state j ≡ stateAfter terms H degrees state j
+  unfolding stateAfter
+  states-alike degrees longer state zero h = refl
+  states-alike degrees longer state (suc j) h = ap₂ (exactSum terms H scale) (h j (omega arith)) (states-alike degrees longer state j (below j h))
 
-pub all-tolerated : (tol : ℕ) (balls : List Ball) → tolerable tol balls ≡ true → Tolerated tol balls
-unfolding tolerable
-all-tolerated tol balls e =
-    record { within = λ i lt. leb-true (getD balls i no-ball .radius) tol (every-holds (length balls) (λ i. leb (getD balls i no-ball .radius) tol) e i lt) }
+  -- the first rows of rows that are trusted are trusted: the later rows get their own degrees
+  pub trusted-prefix : (tol : ℕ) (starts : List Ball) (rows : List Row) (count : ℕ) → count ≤ length rows → Trusted terms H tol starts rows → Trusted terms H tol starts (take count rows)
+  unfolding Trusted
+  trusted-prefix tol starts rows count few trusted state within degrees lower j lt =
+      let h : j < count = omega (arith, length-take-le count rows few) in
+      rw (getD-take count rows j no-row h, ← (states-alike degrees longer state (suc j) (λ i l. kept i (omega arith)))) (trusted state within longer no-lower j (omega arith))
+    where
+      raised : ℕ → ℕ
+      raised i = max (getD degrees i 0) (getD rows i no-row .degree)
 
-question-passed : (b : Bool) (r : Refusal) (next : Advance) {row : Row} → question b r next ≡ moves row → (b ≡ true) × (next ≡ moves row)
-unfolding question
-question-passed true r next e = (refl, e)
-question-passed false r next e = let z : _≡_ {A = ℕ} 0 1 = cc in absurd (omega arith)
+      longer : List ℕ
+      longer = tabulate (length rows) raised
 
-module _ (terms : List Term) (H : ℤ) (limit tol : ℕ) where
-  pub record Taken (balls : List Ball) (row : Row) : Type 0 where
-    pub is-slow : slow terms H balls ≡ true
-    pub is-row : row ≡ stepRow terms H limit balls
-    pub is-tolerable : tolerable tol (row .balls) ≡ true
+      no-lower : NoLower longer rows
+      no-lower = record { each = length-tabulate (length rows) raised; lower = λ i l. rw (getD-tabulate (length rows) raised 0 i l) (le-max-right _ _) }
 
-  pub step-taken : (balls : List Ball) {row : Row} → advance terms H limit tol balls ≡ moves row → Taken balls row
-  unfolding advance tolerated
-  step-taken balls {row} e =
-      let a = question-passed (small balls) TooLarge _ e in
-      let b = question-passed (slow terms H balls) StepTooLong _ (a .1) in
-      let c = question-passed (tolerable tol (stepRow terms H limit balls .balls)) Intolerable _ (b .1) in
-      let same : row ≡ stepRow terms H limit balls = cc (c .1) in
-      record { is-slow = b .0; is-row = same; is-tolerable = rw same (c .0) }
+      kept : (i : ℕ) → i < count → getD longer i 0 ≡ getD degrees i 0
+      kept i l =
+          getD-tabulate (length rows) raised 0 i (omega arith) ∙ max-eq-left (rw (getD-take count rows i no-row) at (lower .lower i (omega (arith, length-take-le count rows few))))
 
-  module _ (formed : WellFormed terms) where
-    taken-encloses : (balls : List Ball) (row : Row) → Taken balls row → (state : State) → LiesWithin balls state → (K : ℕ) → row .degree ≤ K → LiesWithin (row .balls) (exactSum terms H scale K state)
-    taken-encloses balls row taken state within K h =
-        rw (taken .is-row) (step-encloses terms formed H balls (taken .is-slow) state within limit K (rw (taken .is-row) at h))
+-- ---- step after step
 
-    go-on-trusted : (step : ℕ) (balls : List Ball) (rest : Row → Run) (next : Advance) → advance terms H limit tol balls ≡ next → ((row : Row) → Trusted terms H tol (row .balls) (rest row .rows)) → Trusted terms H tol balls (goOn next step rest .rows)
-    unfolding goOn refused
-    go-on-trusted step balls rest (moves row) e trusted =
-        let taken = step-taken balls e in
-        row-then-trusted terms H tol balls row (rest row .rows) (taken-encloses balls row taken) (all-tolerated tol (row .balls) (taken .is-tolerable)) (trusted row)
-    go-on-trusted step balls rest (stops r) e trusted = no-rows-trusted terms H tol balls
+module _ (terms : List Term) (H : ℤ) (limit tol : ℕ) (formed : WellFormed terms) where
+  taken-encloses : (balls : List Ball) (row : Row) → Taken terms H limit tol balls row → (state : State) → LiesWithin balls state → (K : ℕ) → row .degree ≤ K → LiesWithin (row .balls) (exactSum terms H scale K state)
+  taken-encloses balls row taken state within K h =
+      rw (taken .is-row) (step-encloses terms formed H balls (taken .is-slow) state within limit K (rw (taken .is-row) at h))
 
-    pub follow-trusted : (left step : ℕ) (balls : List Ball) → Trusted terms H tol balls (follow terms H limit tol left step balls .rows)
-    unfolding follow
-    follow-trusted zero step balls = no-rows-trusted terms H tol balls
-    follow-trusted (suc left) step balls =
-        go-on-trusted step balls (λ row. follow terms H limit tol left (suc step) (row .balls)) (advance terms H limit tol balls) refl (λ row. follow-trusted left (suc step) (row .balls))
+  go-on-trusted : (step : ℕ) (balls : List Ball) (rest : Row → Run) (next : Advance) → advance terms H limit tol balls ≡ next → ((row : Row) → Trusted terms H tol (row .balls) (rest row .rows)) → Trusted terms H tol balls (goOn next step rest .rows)
+  unfolding goOn refused
+  go-on-trusted step balls rest (moves row) e trusted =
+      let taken = step-taken terms H limit tol balls e in
+      row-then-trusted terms H tol balls row (rest row .rows) (taken-encloses balls row taken) (all-tolerated tol (row .balls) (taken .is-tolerable)) (trusted row)
+  go-on-trusted step balls rest (stops r) e trusted = no-rows-trusted terms H tol balls
+
+  pub follow-trusted : (left step : ℕ) (balls : List Ball) → Trusted terms H tol balls (follow terms H limit tol left step balls .rows)
+  unfolding follow
+  follow-trusted zero step balls = no-rows-trusted terms H tol balls
+  follow-trusted (suc left) step balls =
+      go-on-trusted step balls (λ row. follow terms H limit tol left (suc step) (row .balls)) (advance terms H limit tol balls) refl (λ row. follow-trusted left (suc step) (row .balls))
 
 -- ---- a sheet and its passage
 

@@ -6,19 +6,18 @@ use mathlib.Core.Path.{_≡_, refl}
 use native.Mathlib.Nat.{one-mul, le-refl, le-trans, mul-le-mul, mul-le-mul-left, le-of-mul-le-mul-left}
 use native.Mathlib.Omega.{arith}
 use borrow.Author.Tests.{eq-eqb}
-use lib.IntN.{ℤ, pos, natAbs, _*ℤ_}
+use lib.IntN.{ℤ, natAbs, _*ℤ_}
 use lib.ListN.{length, getD}
-use Rattle.rounding.proofs.Integers.{abs-add}
 use Rattle.model.specs.Range.{sum, sumℤ}
 use Rattle.model.specs.Sheet.{scale, most, no-term}
 use Rattle.model.specs.Exact.{bringsℤ}
-use Rattle.model.specs.Step.{most-degree, Ball, reach, greatest, brings, Coefficients, coefficient, factor, productRadius, products, times, share, coefficientsTo, newBall}
+use Rattle.model.specs.Step.{most-degree, Ball, reach, greatest, brings, Coefficients, coefficient, factor, productRadius, products, times, share}
 use Rattle.model.specs.Bounds.{total, most-total, InBounds}
 use Rattle.model.specs.declared.Term.{Term}
 use Rattle.model.proofs.Reach.{reach-product, reach-times, reach-sums-bounded}
 use Rattle.model.proofs.Weights.{weighs, weightOf}
 use Rattle.model.proofs.Shares.{FactorsReach, partialProducts, products-bounded, carried-weighed}
-use Rattle.model.proofs.Invariant.{weight-halved, scale-le-greatest, greatest-le-most, brought-bounded, coefficient-bounded, coefficient-halved}
+use Rattle.model.proofs.Invariant.{weight-halved, scale-le-greatest, greatest-le-most, brought-bounded}
 use Rattle.model.proofs.Ranges.{summand-le}
 
 pub value-le-reach : (ball : Ball) → natAbs (ball .value) ≤ reach ball
@@ -121,27 +120,3 @@ pub order-sums-bounded : (table : Coefficients) (i m : ℕ) {G : ℕ} → ((k : 
 unfolding reach
 order-sums-bounded table i m {G} h =
     rw one-mul at (reach-sums-bounded m (λ k. coefficient table k i .value) (λ k. coefficient table k i .radius) 1 G (λ k l. rw one-mul (h k l)))
-
--- the sums of c and of e, as far as they are summed up: at most ten digits
-module _ {terms : List Term} {H : ℤ} {balls : List Ball} (bounds : InBounds terms H balls) (d i : ℕ) where
-  row-sums-bounded : (m : ℕ) → m ≤ suc d →
-      2 * (natAbs (sumℤ m (λ k. coefficient (coefficientsTo terms H balls d) k i .value)) + sum m (λ k. coefficient (coefficientsTo terms H balls d) k i .radius)) ≤ m * (greatest balls + 2727) + greatest balls
-  unfolding reach sum sumℤ
-  row-sums-bounded zero h = omega arith
-  row-sums-bounded (suc zero) h =
-      omega (arith, coefficient-bounded bounds d 0 (omega arith) i, abs-add (pos 0) (coefficient (coefficientsTo terms H balls d) 0 i .value))
-  row-sums-bounded (suc (suc m)) h =
-      omega (arith, row-sums-bounded (suc m) (omega arith), coefficient-halved bounds d m (omega arith) i, abs-add (sumℤ (suc m) (λ k. coefficient (coefficientsTo terms H balls d) k i .value)) (coefficient (coefficientsTo terms H balls d) (suc m) i .value))
-
-  pub row-sums-fit : (m : ℕ) → m ≤ suc d → d ≤ most-degree →
-      natAbs (sumℤ m (λ k. coefficient (coefficientsTo terms H balls d) k i .value)) + sum m (λ k. coefficient (coefficientsTo terms H balls d) k i .radius) < 2 ^ 33
-  unfolding most
-  row-sums-fit m h l =
-      let top : greatest balls + 2727 ≤ most + 2727 = omega (arith, greatest-le-most bounds) in
-      let count : m ≤ most-degree + 1 = omega arith in
-      omega (arith, row-sums-bounded m h, greatest-le-most bounds, mul-le-mul count top)
-
-  -- the new row's value and radius
-  pub new-ball-fits : (tail : ℕ) → d ≤ most-degree → reach (newBall (coefficientsTo terms H balls d) d tail i) < 2 ^ 33 + tail
-  unfolding reach newBall
-  new-ball-fits tail l = omega (arith, row-sums-fit (suc d) (le-refl (suc d)) l)

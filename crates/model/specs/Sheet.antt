@@ -17,7 +17,7 @@ use Rattle.model.specs.declared.Term.{Term}
 use Rattle.model.specs.declared.Terms.{Terms}
 use Rattle.model.specs.declared.Sheet.{Sheet}
 use Rattle.model.specs.declared.Refusal.{Refusal}
-use Rattle.model.specs.declared.Refusal.the-variants.{Oversized, Misspelt, OutOfRange, NoReading, TooFewPlaces, TooLarge, StepTooLong, Intolerable}
+use Rattle.model.specs.declared.Refusal.the-variants.{Oversized, Misspelt, OutOfRange, NoReading, TooFewPlaces, TooLarge, StepTooLong, Intolerable, QueryOutOfRange, RowOutOfRange}
 use Rattle.model.specs.declared.Outcome.{Outcome}
 use Rattle.model.specs.declared.Outcome.the-variants.{Accepted, Refused}
 
@@ -57,7 +57,7 @@ most-coef = 268435456
 
 -- ---- refusals
 
--- a refusal's number in document 01
+-- a refusal's number in documents 01 and 02
 unfoldable pub number : Refusal → ℕ
 number Oversized = 1
 number Misspelt = 2
@@ -67,6 +67,8 @@ number TooFewPlaces = 5
 number TooLarge = 6
 number StepTooLong = 7
 number Intolerable = 8
+number QueryOutOfRange = 9
+number RowOutOfRange = 10
 
 -- what is printed as `result`
 unfoldable pub result : Outcome → ℕ

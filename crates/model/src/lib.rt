@@ -94,7 +94,7 @@ pub struct Balls {
     pub radii: [u64; MOST_QUANTITIES],
 }
 
-// Every refusal, in the order of the numbers.
+// Every refusal of documents 01 and 02, in the order of the numbers.
 pub enum Refusal {
     Oversized,
     Misspelt,
@@ -104,6 +104,8 @@ pub enum Refusal {
     TooLarge,
     StepTooLong,
     Intolerable,
+    QueryOutOfRange,
+    RowOutOfRange,
 }
 
 // What comes of a sheet or a passage. A refusal has the number of the refused step, or 0 before step 1.
@@ -118,7 +120,7 @@ pub struct ReadSheet {
     pub sheet: Sheet,
 }
 
-// A refusal's number in document 01.
+// A refusal's number in documents 01 and 02.
 pub fn number(refusal: Refusal) -> u64
     ensures { λ r. ⌜ r ≡ sheet.number refusal ⌝ }
 {
@@ -131,6 +133,8 @@ pub fn number(refusal: Refusal) -> u64
         Refusal::TooLarge => 6,
         Refusal::StepTooLong => 7,
         Refusal::Intolerable => 8,
+        Refusal::QueryOutOfRange => 9,
+        Refusal::RowOutOfRange => 10,
     }
 }
 

@@ -3,10 +3,11 @@ use Prim.Native.Nat.{ℕ, _+_, _*_, _≤_, _<_}
 use mathlib.Core.Path.{_≡_, sym, ap, ap₂, _∙_}
 use native.Mathlib.Nat.{le-refl, le-trans, mul-assoc, mul-left-comm, mul-le-mul-left, mul-le-mul-right, mul-le-mul, le-of-mul-le-mul-left, one-mul, add-mul}
 use native.Mathlib.Omega.{arith}
-use lib.IntN.{ℤ, pos, natAbs, _+ℤ_, _-ℤ_, _*ℤ_, pos-*ℤ-pos, +ℤ-invr, +ℤ-negℤ-cancel}
+use lib.IntN.{ℤ, pos, natAbs, negℤ, _+ℤ_, _-ℤ_, _*ℤ_, pos-*ℤ-pos, +ℤ-invr, +ℤ-negℤ-cancel}
+use lib.Signed.{_≤ℤ_}
 use Rattle.rounding.specs.Rounding.{up, near, distance}
 use Rattle.rounding.specs.Enclosure.{Within}
-use Rattle.rounding.proofs.Integers.{ringℤ, ringℕ, minus-plus, abs-mul, abs-add, through}
+use Rattle.rounding.proofs.Integers.{ringℤ, ringℕ, minus-plus, abs-mul, add-parts, neg-parts, abs-parts, pos-parts, parts-le, abs-add, through}
 use Rattle.rounding.proofs.Roundings.{up-not-below, near-is-near}
 
 -- a whole number lies within 0 of itself
@@ -15,6 +16,18 @@ within-exact c m = record { off = rw (+ℤ-invr (c *ℤ pos m)) (omega arith) }
 
 pub within-wider : {u : ℤ} {m : ℕ} {c : ℤ} {e f : ℕ} → e ≤ f → Within u m c e → Within u m c f
 within-wider {m = m} h w = record { off = le-trans (w .off) (mul-le-mul-right m h) }
+
+-- the low end of an enclosure
+pub within-low : {u : ℤ} {m : ℕ} {c : ℤ} {e : ℕ} → Within u m c e → ((c -ℤ pos e) *ℤ pos m) ≤ℤ u
+within-low {u} {m} {c} {e} w =
+    rw (spread c (pos e) (pos m), pos-*ℤ-pos e m) (below (c *ℤ pos m) (e * m) (w .off))
+  where
+    spread : (c e m : ℤ) → (c -ℤ e) *ℤ m ≡ c *ℤ m -ℤ e *ℤ m
+    spread c e m = simp ringℤ
+
+    below : (x : ℤ) (k : ℕ) → natAbs (u -ℤ x) ≤ k → (x -ℤ pos k) ≤ℤ u
+    below x k h =
+        parts-le (x -ℤ pos k) u (omega (arith, add-parts x (negℤ (pos k)), neg-parts (pos k), pos-parts k, add-parts u (negℤ x), neg-parts x, abs-parts (u -ℤ x)))
 
 pub within-sum : {u u′ : ℤ} {m : ℕ} {c c′ : ℤ} {e e′ : ℕ} → Within u m c e → Within u′ m c′ e′ → Within (u +ℤ u′) m (c +ℤ c′) (e + e′)
 within-sum {u} {u′} {m} {c} {c′} {e} {e′} w w′ =

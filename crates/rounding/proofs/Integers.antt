@@ -4,11 +4,11 @@ use Prim.Native.Nat.{ℕ, zero, suc, _+_, _*_, _-_, _≤_, _<_}
 use mathlib.Core.Path.{_≡_, refl, sym, ap, _∙_}
 use mathlib.Core.Bool.{Bool, true, false, not, cond}
 use mathlib.Core.Logic.{_⊎_, inl, inr, ⊎-elim}
-use native.Mathlib.Nat.{add-assoc, add-comm, add-left-comm, mul-assoc, mul-comm, mul-left-comm, mul-add, add-mul, mul-le-mul-left, mul-lt-mul-of-pos-right}
+use native.Mathlib.Nat.{add-assoc, add-comm, add-left-comm, mul-assoc, mul-comm, mul-left-comm, mul-add, add-mul, mul-le-mul-left, mul-le-mul-right, mul-lt-mul-of-pos-right, le-of-mul-le-mul-right, zero-mul}
 use native.Mathlib.Omega.{arith}
 use lib.Dec.{T, ltb, ltb→lt, nltb→le, leb→le, le→leb}
 use lib.IntN.{ℤ, pos, negsuc, sucℤ, predℤ, negℤ, natAbs, subℕ, _+ℤ_, _-ℤ_, _*ℤ_, +ℤ-assoc, +ℤ-comm, +ℤ-idl, +ℤ-idr, +ℤ-invr, +ℤ-invl, negℤ-+ℤ, negℤ-negℤ, -ℤ-+ℤ-cancel, sucℤ-+ℤ, predℤ-+ℤ, sucℤ-*ℤ, predℤ-*ℤ, *ℤ-comm, zero-*ℤ}
-use lib.Signed.{_≤ℤ_}
+use lib.Signed.{_≤ℤ_, leZ}
 
 -- ---- the ring
 
@@ -155,6 +155,14 @@ neg-parts (pos zero) = record { top = refl; bottom = refl }
 neg-parts (pos (suc n)) = record { top = refl; bottom = refl }
 neg-parts (negsuc n) = record { top = refl; bottom = refl }
 
+pub record Natural (n : ℕ) (z : ℤ) : Type 0 where
+  pub top : positive z ≡ n
+  pub bottom : negative z ≡ 0
+
+pub pos-parts : (n : ℕ) → Natural n (pos n)
+unfolding positive negative
+pos-parts n = record { top = refl; bottom = refl }
+
 -- and back from the parts
 pub from-parts : (a b : ℤ) → positive a + negative b ≡ positive b + negative a → a ≡ b
 unfolding positive negative
@@ -181,6 +189,33 @@ parts-le (pos a) (pos b) h = record { le = le→leb a b (omega arith) }
 parts-le (pos a) (negsuc b) h = absurd (omega arith)
 parts-le (negsuc a) (pos b) h = record { le = tt }
 parts-le (negsuc a) (negsuc b) h = record { le = le→leb b a (omega arith) }
+
+-- a positive factor on both sides
+scaled-parts : (a : ℤ) (k : ℕ) → (positive (a *ℤ pos k) ≡ positive a * k) × (negative (a *ℤ pos k) ≡ negative a * k)
+unfolding positive negative
+scaled-parts (pos n) k = (refl, sym (zero-mul k))
+scaled-parts (negsuc n) k = (neg-parts (pos (suc n * k)) .top ∙ sym (zero-mul k), neg-parts (pos (suc n * k)) .bottom)
+
+pub le-scaled : {a b : ℤ} (k : ℕ) → a ≤ℤ b → (a *ℤ pos k) ≤ℤ (b *ℤ pos k)
+le-scaled {a} {b} k h =
+    parts-le (a *ℤ pos k) (b *ℤ pos k) (omega (arith, scaled-parts a k, scaled-parts b k, mul-le-mul-right k (le-parts h)))
+
+-- and back
+pub le-unscaled : (a b : ℤ) {k : ℕ} → 0 < k → (a *ℤ pos k) ≤ℤ (b *ℤ pos k) → a ≤ℤ b
+le-unscaled a b {k} some h =
+    parts-le a b (le-of-mul-le-mul-right {k = k} (omega (arith, le-parts h, scaled-parts a k, scaled-parts b k)) some)
+
+-- as a test
+pub le-test : {a b : ℤ} → a ≤ℤ b → leZ a b ≡ true
+le-test {a} {b} h = go (leZ a b) (h .le)
+  where
+    go : (t : Bool) → T t → t ≡ true
+    go true holds = refl
+    go false holds = absurd holds
+
+-- a sum in between
+pub le-sums : (a b c d : ℤ) → a ≤ℤ (b +ℤ c) → c ≤ℤ d → a ≤ℤ (b +ℤ d)
+le-sums a b c d h k = parts-le a (b +ℤ d) (omega (arith, le-parts h, le-parts k, add-parts b c, add-parts b d))
 
 pub abs-add : (a b : ℤ) → natAbs (a +ℤ b) ≤ natAbs a + natAbs b
 abs-add a b = omega (arith, add-parts a b, abs-parts a, abs-parts b, abs-parts (a +ℤ b))

@@ -24,12 +24,13 @@ use Rattle.model.specs.Bounds.{TermsInBounds, InBounds}
 use Rattle.model.specs.Rows.{ballIn, ballsIn, ballsOf, laidOut}
 use Rattle.model.proofs.Ranges.{below, largest-bounded}
 use Rattle.model.proofs.Invariant.{scale-le-greatest}
+use Rattle.model.proofs.Taken.{length-row}
 use Rattle.taylor.specs.Ratio.{Reaching}
 use Rattle.taylor.specs.Step.{answered}
 use Rattle.taylor.specs.declared.step.Advance.the-variants.{Moves, Stops}
 use Rattle.taylor.specs.declared.step.Stepped.{Stepped}
 use Rattle.taylor.proofs.Balls.{getD-balls, greatest-is}
-use Rattle.taylor.proofs.LaidOut.{balls-laid-out, length-row}
+use Rattle.taylor.proofs.LaidOut.{balls-laid-out}
 
 -- equal tests of each number have one answer
 every-equal : (n : ℕ) (f g : ℕ → Bool) → ((i : ℕ) → i < n → f i ≡ g i) → every n f ≡ every n g

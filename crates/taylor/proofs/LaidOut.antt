@@ -10,9 +10,8 @@ use lib.ListN.{length, getD, drop, replicate, length-map, length-replicate, List
 use lib.Seq.{sets, sets-eq}
 use Rattle.model.specs.Range.{tabulate}
 use Rattle.model.specs.Sheet.{most-quantities, padded}
-use Rattle.model.specs.Step.{no-ball, stepRow, newRow}
+use Rattle.model.specs.Step.{no-ball}
 use Rattle.model.specs.declared.Ball.{Ball}
-use Rattle.model.specs.declared.Term.{Term}
 use Rattle.model.proofs.Ranges.{length-tabulate, map-tabulate, tabulate-is}
 use Rattle.model.specs.Rows.{ballIn, ballsIn, laidOut}
 use Rattle.products.proofs.Places.{ball-equal}
@@ -47,8 +46,3 @@ balls-laid-out n balls len = tabulate-is n (ballIn (laidOut balls .values) (laid
         ball-equal
         (List·getD-append (map (λ ball. ball .value) balls) _ (pos 0) i (rw (length-map, len) h) ∙ List·getD-map (λ ball. ball .value) balls i no-ball)
         (List·getD-append (map (λ ball. ball .radius) balls) _ 0 i (rw (length-map, len) h) ∙ List·getD-map (λ ball. ball .radius) balls i no-ball)
-
--- a step's row has a ball for each that it started from
-pub length-row : (terms : List Term) (H : ℤ) (limit : ℕ) (balls : List Ball) → length (stepRow terms H limit balls .balls) ≡ length balls
-unfolding stepRow newRow
-length-row terms H limit balls = length-tabulate (length balls) _

@@ -1,6 +1,5 @@
 mod Balls
 mod Ratios
-mod Tests
 pub mod LaidOut
 mod StepRow
 mod Answers

@@ -29,6 +29,12 @@ enum-told-7 c = search needs
 enum-told-8 : tie.Need-enum-told-8
 enum-told-8 c = search needs
 
+enum-told-9 : tie.Need-enum-told-9
+enum-told-9 c = search needs
+
+enum-told-10 : tie.Need-enum-told-10
+enum-told-10 c = search needs
+
 returns : tie.Need-returns
 unfolding number
 returns c = sym (ap number (c .enum-told .given .1))
@@ -61,6 +67,14 @@ returns-8 : tie.Need-returns-8
 unfolding number
 returns-8 c = sym (ap number (c .enum-told8 .given .1))
 
+returns-9 : tie.Need-returns-9
+unfolding number
+returns-9 c = sym (ap number (c .enum-told9 .given .1))
+
+returns-10 : tie.Need-returns-10
+unfolding number
+returns-10 c = sym (ap number (c .enum-told10 .given .1))
+
 pub number-spec : {M : Type 1} → statement M
 number-spec =
     tie.close
@@ -73,6 +87,8 @@ number-spec =
     enum-told-6
     enum-told-7
     enum-told-8
+    enum-told-9
+    enum-told-10
     returns
     returns-2
     returns-3
@@ -80,4 +96,6 @@ number-spec =
     returns-5
     returns-6
     returns-7
-    returns-8)
+    returns-8
+    returns-9
+    returns-10)

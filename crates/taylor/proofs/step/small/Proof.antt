@@ -16,7 +16,7 @@ use Rattle.model.specs.Range as range
 use Rattle.model.specs.Sheet.{most}
 use Rattle.model.specs.Step.{reach}
 use Rattle.model.specs.Rows.{ballIn}
-use Rattle.taylor.proofs.Tests.{every-none, every-more, every-fails}
+use Rattle.model.proofs.Tests.{every-none, every-more, every-fails}
 use borrow.Author.Needs.{needs}
 use Rattle.taylor.proofs.step.small.Statement.{statement}
 use Rattle.taylor.proofs.step.small.Tie as tie

@@ -6,7 +6,8 @@ use mathlib.Core.Logic.{⊎-elim}
 use native.Mathlib.Nat.{eq-or-lt-of-le}
 use native.Mathlib.Numerals.{add-one}
 use native.Mathlib.Omega.{arith}
 use Rattle.model.specs.Range.{every}
+use Rattle.model.proofs.Ranges.{below}
 
 -- none is tested
 pub every-none : (f : ℕ → Bool) → every 0 f ≡ true
@@ -24,3 +25,9 @@ unfolding every
 every-fails f i zero l h = absurd (omega arith)
 every-fails f i (suc n) l h =
     ⊎-elim (λ (e : i ≡ n). ap (λ (b : Bool). every n f && b) (ap f (sym e) ∙ h) ∙ and-false (every n f)) (λ (m : i < n). ap (λ (b : Bool). b && f n) (every-fails f i n m h)) (eq-or-lt-of-le {n = i} {m = n} (omega arith))
+
+-- all yes
+pub every-all : (f : ℕ → Bool) (n : ℕ) → ((i : ℕ) → i < n → f i ≡ true) → every n f ≡ true
+unfolding every
+every-all f zero h = refl
+every-all f (suc n) h = rw (every-all f n (below n h), h n (omega arith))

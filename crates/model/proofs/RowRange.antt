@@ -1,0 +1,60 @@
+-- Every row that a passage writes keeps to a range: by questions 4 and 5 and the sharp bound its values, by question 6 its radii. `most` is 2^29.
+-- Assumes nothing.
+use Prim.Native.Nat.{ℕ, _+_, _*_, _≤_, _<_}
+use mathlib.Core.Path.{_≡_}
+use mathlib.Core.List.{List}
+use native.Mathlib.Nat.{le-trans, zero-mul, mul-le-mul-right}
+use native.Mathlib.Omega.{arith}
+use lib.IntN.{natAbs}
+use lib.ListN.{length, getD}
+use Rattle.model.specs.Sheet.{most, most-steps, passes, sheetVerdict, termsOf}
+use Rattle.model.specs.Step.{Ball, no-ball, greatest, most-degree, Row}
+use Rattle.model.specs.Passage.{moves, advance, refused, placesNeeded, passage}
+use Rattle.model.specs.Rows.{width}
+use Rattle.model.specs.Bounds.{InBounds}
+use Rattle.model.specs.declared.Sheet.{Sheet}
+use Rattle.model.proofs.Halving.{row-sharp}
+use Rattle.model.proofs.Invariant.{greatest-le-most}
+use Rattle.model.proofs.Passages.{run-each, rows-of-run, passage-either}
+use Rattle.model.proofs.Rows.{Each, none}
+use Rattle.model.proofs.SheetBounds.{bounds-of-sheet, bounds-of-step, counts-of-sheet}
+use Rattle.model.proofs.Taken.{all-tolerated, Taken, step-taken, quantities-stay, degree-at-most}
+
+pub record InRange (row : Row) : Type 0 where
+  pub degree : row .degree ≤ most-degree
+  pub values : (i : ℕ) → i < length (row .balls) → natAbs (getD (row .balls) i no-ball .value) ≤ 3 * most
+  pub radii : (i : ℕ) → i < length (row .balls) → getD (row .balls) i no-ball .radius ≤ most
+
+row-in-range : (sheet : Sheet) → sheetVerdict sheet ≡ passes → (balls : List Ball) (row : Row) → length balls ≡ sheet .head .n → advance (termsOf sheet) (sheet .head .step) (sheet .head .tail) (sheet .head .tol) balls ≡ moves row → InRange row
+row-in-range sheet passed balls row l e =
+    record { degree = degree-at-most _ _ _ _ balls e; values = λ i h. omega (arith, value-at i h, radius-at i h, greatest-le-most bounds); radii = radius-at }
+  where
+    taken : Taken (termsOf sheet) (sheet .head .step) (sheet .head .tail) (sheet .head .tol) balls row
+    taken = step-taken _ _ _ _ balls e
+
+    bounds : InBounds (termsOf sheet) (sheet .head .step) balls
+    bounds = bounds-of-step balls (rw l (bounds-of-sheet sheet passed)) (taken .is-small) (taken .is-slow)
+
+    radius-at : (i : ℕ) → i < length (row .balls) → getD (row .balls) i no-ball .radius ≤ most
+    radius-at i h = le-trans (all-tolerated (sheet .head .tol) (row .balls) (taken .is-tolerable) .within i h) (counts-of-sheet sheet passed .tol-high)
+
+    value-at : (i : ℕ) → i < length (row .balls) → natAbs (getD (row .balls) i no-ball .value) ≤ 2 * greatest balls + getD (row .balls) i no-ball .radius
+    value-at i h =
+        rw (taken .is-row) (row-sharp (termsOf sheet) (record { absent = bounds .sheet .formed }) (sheet .head .step) balls (taken .is-slow) i (sheet .head .tail) (rw (quantities-stay _ _ _ _ balls e) at h))
+
+pub passage-in-range : (sheet : Sheet) (places : ℕ) → Each InRange (passage sheet places .rows)
+unfolding refused
+passage-in-range sheet places =
+    passage-either sheet places (λ run. Each InRange (run .rows)) (λ r. none) (λ e room. run-each sheet InRange (row-in-range sheet e))
+
+-- no more rows than the most steps ..
+pub passage-few : (sheet : Sheet) (places : ℕ) → length (passage sheet places .rows) ≤ most-steps
+unfolding refused
+passage-few sheet places =
+    passage-either sheet places (λ run. length (run .rows) ≤ most-steps) (λ r. omega arith) (λ e room. le-trans (rows-of-run sheet .fits) (counts-of-sheet sheet e .steps-high))
+
+-- .. and no more places than were lent
+pub passage-fits : (sheet : Sheet) (lent : ℕ) → length (passage sheet lent .rows) * width (sheet .head .n) ≤ lent
+unfolding refused placesNeeded
+passage-fits sheet lent =
+    passage-either sheet lent (λ run. length (run .rows) * width (sheet .head .n) ≤ lent) (λ r. omega (arith, zero-mul (width (sheet .head .n)))) (λ e room. le-trans (mul-le-mul-right (width (sheet .head .n)) (rows-of-run sheet .fits)) room)
