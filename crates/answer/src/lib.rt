@@ -5,15 +5,14 @@ ghost use Prim.Native.Nat.{ℕ, _≤_};
 ghost use lib.ListN.{length, take};
 ghost use Rattle.model.specs.Answer.{answer, runText};
 ghost use Rattle.model.specs.Rows.{written};
-ghost use Rattle.model.specs.Passage.{rowsWritten};
 ghost use Rattle.decimal.specs.Pieces.{Printed};
 ghost use Rattle.text.specs.Lengths.{most-answer};
 ghost use Rattle.answer.specs.Answered.{runLent, endedOf, Ran, summary-length, summaryOf, TrustedLent, TrustedText, FrontOf, AnswersAlike};
 use model::MOST_BYTES;
 use model::Outcome;
-use model::Sheet;
 use model::refused_step;
 use model::result;
+use passage::rows_written;
 use passage::run;
 use sheet::read;
 use text::put_run;
@@ -35,16 +34,6 @@ pub struct Ended {
     pub n: usize,
     pub count: usize,
     pub outcome: Outcome,
-}
-
-// How many rows the passage of a sheet has written.
-fn rows_written(sheet: Sheet, outcome: Outcome) -> usize
-    ensures { λ r. ⌜ r ≡ rowsWritten sheet outcome ⌝ }
-{
-    match outcome {
-        Outcome::Accepted => sheet.head.steps,
-        Outcome::Refused(_, step) => { if step == 0 { 0 } else { step - 1 } }
-    }
 }
 
 // Reads a sheet and runs its passage into `rows`.

@@ -5,7 +5,7 @@ use mathlib.Core.List.{List, []}
 use lib.IntN.{ℤ}
 use lib.ListN.{length, getD}
 use Rattle.model.specs.Sheet.{Verdict, passes, refuses, sheetVerdict, termsOf, startsOf}
-use Rattle.model.specs.Step.{most-degree, no-ball, Row, stepRow, newRow, degree}
+use Rattle.model.specs.Step.{no-ball, Row}
 use Rattle.model.specs.Rows.{ballIn, ballsIn, ballsOf}
 use Rattle.model.specs.Passage.{Advance, moves, stops, advanceNumber as numberMeant, advance, Run, goOn, follow, run}
 use Rattle.model.specs.declared.Ball.{Ball}
@@ -14,13 +14,12 @@ use Rattle.model.specs.declared.Sheet.{Sheet}
 use Rattle.model.specs.declared.Outcome.the-variants.{Accepted}
 use Rattle.model.specs.declared.Term.{Term}
 use Rattle.model.specs.declared.Refusal.{Refusal}
-use Rattle.model.proofs.Degree.{least-le}
 use Rattle.model.proofs.Ranges.{length-tabulate, getD-tabulate}
-use Rattle.model.proofs.Trusted.{all-tolerated, step-taken}
+use Rattle.model.proofs.Taken.{all-tolerated, step-taken, quantities-stay}
 use Rattle.taylor.specs.Step.{answered, advanceNumber, advanceDegree, degreeOf, Numbered}
 use Rattle.taylor.specs.declared.step.Stepped.{Stepped}
 use Rattle.taylor.specs.declared.step.Advance.the-variants.{Moves, Stops}
-use Rattle.taylor.proofs.LaidOut.{balls-laid-out, length-row}
+use Rattle.taylor.proofs.LaidOut.{balls-laid-out}
 use Rattle.model.proofs.Rows.{length-balls}
 use Rattle.passage.specs.Promise.{stepOf}
 
@@ -55,11 +54,7 @@ step-stops start (stops refusal) stepped r is e =
 module _ (terms : List Term) (H : ℤ) (limit tol : ℕ) where
   pub step-moves : (n : ℕ) (start : Balls) (stepped : Stepped) (degree : ℕ) → stepped ≡ answered start (advance terms H limit tol (ballsOf n start)) → stepped .advance ≡ Moves degree → advance terms H limit tol (ballsOf n start) ≡ moves (rowOf n degree (stepped .balls))
   step-moves n start stepped degree =
-      moves-to n start (advance terms H limit tol (ballsOf n start)) stepped degree (λ row e. rw (step-taken terms H limit tol _ e .is-row) (length-row terms H limit _ ∙ length-balls n (start .values) (start .radii)))
-
-  pub degree-at-most : (balls : List Ball) {row : Row} → advance terms H limit tol balls ≡ moves row → row .degree ≤ most-degree
-  unfolding stepRow newRow degree
-  degree-at-most balls e = rw (step-taken terms H limit tol balls e .is-row) (least-le most-degree _)
+      moves-to n start (advance terms H limit tol (ballsOf n start)) stepped degree (λ row e. quantities-stay terms H limit tol _ e ∙ length-balls n (start .values) (start .radii))
 
   pub radii-at-most : (balls : List Ball) (n degree : ℕ) (row : Balls) → advance terms H limit tol balls ≡ moves (rowOf n degree row) → (i : ℕ) → i < n → getD (row .radii) i 0 ≤ tol
   unfolding ballsIn ballIn

@@ -104,6 +104,16 @@ pub fn run(sheet: Sheet, rows: &mut [i64]) -> Outcome
     run_steps(head, terms, start, rows)
 }
 
+// How many rows the passage of a sheet has written.
+pub fn rows_written(sheet: Sheet, outcome: Outcome) -> usize
+    ensures { λ r. ⌜ r ≡ passage.rowsWritten sheet outcome ⌝ }
+{
+    match outcome {
+        Outcome::Accepted => sheet.head.steps,
+        Outcome::Refused(_, step) => { if step == 0 { 0 } else { step - 1 } }
+    }
+}
+
 // One step of the sheet from `start`. A sheet that is refused by 3 or 4 gives that refusal, and a refused step leaves the
 // values and radii that it started from.
 pub fn step(sheet: Sheet, start: Balls) -> Stepped

@@ -18,10 +18,10 @@ use rounding::magnitude;
 const PARTS: usize = 2;
 
 // The part of the values ..
-const VALUES: usize = 0;
+pub const VALUES: usize = 0;
 
 // .. and that of the radii.
-const RADII: usize = 1;
+pub const RADII: usize = 1;
 
 // Places for the most steps of the most quantities.
 pub const ROWS_LENGTH: usize = MOST_STEPS * (PARTS * MOST_QUANTITIES + 1);
@@ -35,7 +35,7 @@ pub fn width(n: usize) -> usize
 }
 
 // The place of quantity i in a part of a row.
-fn part_place(n: usize, row: usize, part: usize, i: usize) -> usize
+pub fn part_place(n: usize, row: usize, part: usize, i: usize) -> usize
     requires { ⌜ HasPlace n row part i ⌝ }
     ensures { λ r. ⌜ r ≡ layout.partPlace n row part i ⌝ }
 {

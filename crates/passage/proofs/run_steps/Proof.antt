@@ -17,6 +17,7 @@ use Rattle.model.specs.declared.Refusal.{Refusal}
 use Rattle.model.specs.declared.Outcome.the-variants.{Refused}
 use Rattle.model.proofs.Follow.{Underway, underway-at-start, underway-length, room-for-row, moved, finished-by-refusal, finished}
 use Rattle.model.proofs.Listed.{length-listed}
+use Rattle.model.proofs.Taken.{degree-at-most}
 use Rattle.coefficients.specs.Orders.{Usable}
 use Rattle.coefficients.proofs.Filling.{blank-usable}
 use Rattle.taylor.specs.Ratio.{SumsOf}
@@ -24,7 +25,7 @@ use Rattle.taylor.specs.Step.{answered}
 use Rattle.taylor.specs.declared.step.Stepped.{Stepped}
 use Rattle.taylor.specs.declared.step.Advance.the-variants.{Stops}
 use Rattle.model.proofs.Rows.{length-balls}
-use Rattle.passage.proofs.Steps.{rowOf, step-moves, step-stops, degree-at-most, radii-at-most}
+use Rattle.passage.proofs.Steps.{rowOf, step-moves, step-stops, radii-at-most}
 use borrow.Author.Needs.{needs}
 use Rattle.passage.proofs.run_steps.Statement.{statement}
 use Rattle.passage.proofs.run_steps.Tie as tie

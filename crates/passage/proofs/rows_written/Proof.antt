@@ -1,4 +1,4 @@
--- `answer::rows_written` meets its contract. Each arm is a case of the definition.
+-- `passage::rows_written` meets its contract. Each arm is a case of the definition.
 -- Assumes nothing.
 use Prim.Native.Nat.{ℕ, _-_}
 use mathlib.Core.Path.{_≡_}
@@ -9,8 +9,8 @@ use Rattle.model.specs.declared.Outcome.the-variants.{Refused}
 use Rattle.model.specs.declared.Refusal.{Refusal}
 use Rattle.model.specs.declared.Sheet.{Sheet}
 use borrow.Author.Needs.{needs}
-use Rattle.answer.proofs.rows_written.Statement.{statement}
-use Rattle.answer.proofs.rows_written.Tie as tie
+use Rattle.passage.proofs.rows_written.Statement.{statement}
+use Rattle.passage.proofs.rows_written.Tie as tie
 
 -- where a step is refused, the rows before it are written
 before-refused : (sheet : Sheet) {outcome : Outcome} {r : Refusal} (step : ℕ) → outcome ≡ Refused r step → step - 1 ≡ rowsWritten sheet outcome
