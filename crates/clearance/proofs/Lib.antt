@@ -1,0 +1,11 @@
+pub mod Cases
+pub mod Ranges
+pub mod Weighing
+pub mod FirstRun
+pub mod Streaks
+pub mod RowsClear
+pub mod Uncertain
+pub mod ClearTrusts
+pub mod Meant
+pub mod Said
+pub mod OwnRows

@@ -1,0 +1,4 @@
+pub mod Clearance
+pub mod Claim
+pub mod Asked
+pub mod Cases
