@@ -140,20 +140,29 @@ def print_table(columns):
         print(f"| {name} | " + " | ".join(map(str, cells)) + " |")
 
 
-def check(rng, rows, passage, state, shares):
-    """Carries an exact state along the printed rows; gives back the number of rows it went, or
-    None where it leaves a radius."""
-    gone = 0
-    direction = BACK if passage["step"] < 0 else FORWARD
+def exact_states(rng, rows, passage, state):
+    """Carries an exact state along the printed rows, at degrees no lower than theirs: each row's exact
+    state, with its values and radii."""
     for degree, values, radii in rows:
         degree += rng.choice([0, 0, 1, 2, 5])
         bits = max(number.denominator.bit_length() for number in state) + SCALE.bit_length()
         if bits * (degree + 1) > MOST_BITS:
             break
         state = exact_sum(state, passage["terms"], passage["step"], degree)
+        yield state, values, radii
+
+
+def direction_of(passage):
+    return BACK if passage["step"] < 0 else FORWARD
+
+
+def check(rng, rows, passage, state, shares):
+    """Gives back the number of rows that an exact state went along, or None where it leaves a radius."""
+    gone = 0
+    for state, values, radii in exact_states(rng, rows, passage, state):
         if not lies_within(state, values, radii):
             return None
-        shares.add(direction, state, values, radii)
+        shares.add(direction_of(passage), state, values, radii)
         gone += 1
     return gone
 

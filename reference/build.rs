@@ -4,11 +4,19 @@
 use std::{env, fs, path::Path};
 
 const HEADER: &str = "../c/planner.h";
+const SIZES: [&str; 6] = [
+    "SHEET_LENGTH",
+    "ROWS_LENGTH",
+    "TEXT_LENGTH",
+    "MOST_QUANTITIES",
+    "MOST_STEPS",
+    "SCALE",
+];
 
 fn main() {
     println!("cargo::rerun-if-changed={HEADER}");
     let header = fs::read_to_string(HEADER).expect("c/planner.h stands beside reference/");
-    for name in ["SHEET", "ROWS", "TEXT"].map(|what| format!("PLANNER_{what}_LENGTH")) {
+    for name in SIZES.map(|name| format!("PLANNER_{name}")) {
         let define = format!("#define {name} ");
         let size = header.lines().find_map(|line| line.strip_prefix(&define));
         println!("cargo::rustc-env={name}={}", size.expect(&name));

@@ -1,9 +1,14 @@
 //! The proved planner beside this program, in one process: the same sheet and equal buffers to both,
-//! then every byte of the text, every place of the buffer and the summary compared.
+//! then every byte of the text, every place of the buffer and the summary compared; the same rows and
+//! query to both, then the answers compared.
 
 use crate::answer::{self, Summary};
+use crate::clearance::{COUNT, FirstClear};
 use crate::generate::Trial;
-use crate::sheet::{MOST_BYTES, MOST_PLACES};
+use crate::queries::QueryTrial;
+use crate::rounding::SCALE;
+use crate::sheet::{MOST_BYTES, MOST_PLACES, MOST_QUANTITIES};
+use std::collections::BTreeMap;
 
 /// Whether the proved planner is linked (see build.rs).
 pub const LINKED: bool = cfg!(planner_linked);
@@ -37,6 +42,9 @@ pub const MOST_TEXT: usize = header(env!("PLANNER_TEXT_LENGTH"));
 
 const _: () = assert!(header(env!("PLANNER_SHEET_LENGTH")) == MOST_BYTES + 1);
 const _: () = assert!(header(env!("PLANNER_ROWS_LENGTH")) == MOST_PLACES);
+const _: () = assert!(header(env!("PLANNER_MOST_QUANTITIES")) == MOST_QUANTITIES);
+const _: () = assert!(header(env!("PLANNER_MOST_STEPS")) == *COUNT.end());
+const _: () = assert!(header(env!("PLANNER_SCALE")) == SCALE as usize);
 
 const fn header(number: &str) -> usize {
     match usize::from_str_radix(number, 10) {
@@ -64,6 +72,17 @@ mod c {
             rows_length: usize,
             summary: *mut [u64; 4],
         );
+
+        pub fn planner_first_clear(
+            n: usize,
+            count: usize,
+            rows: *const i64,
+            rows_length: usize,
+            weights: *const i64,
+            base: i64,
+            need: i64,
+            run: usize,
+        ) -> i64;
     }
 }
 
@@ -116,6 +135,36 @@ pub fn planner_run(sheet: &[u8], rows: &mut [i64]) -> Option<Summary> {
 
 #[cfg(not(planner_linked))]
 pub fn planner_run(_sheet: &[u8], _rows: &mut [i64]) -> Option<Summary> {
+    None
+}
+
+/// The proved planner's answer to a query, as one number. Where the planner is not linked, there is none.
+#[cfg(planner_linked)]
+pub fn planner_first_clear(trial: &QueryTrial) -> Option<i64> {
+    let QueryTrial {
+        n,
+        count,
+        rows,
+        query,
+    } = trial;
+    // SAFETY: the first pointer is that of a live slice of the length beside it, the second that of eight
+    // numbers, and both are only read.
+    Some(unsafe {
+        c::planner_first_clear(
+            *n,
+            *count,
+            rows.as_ptr(),
+            rows.len(),
+            query.weights.as_ptr(),
+            query.base,
+            query.need,
+            query.run,
+        )
+    })
+}
+
+#[cfg(not(planner_linked))]
+pub fn planner_first_clear(_trial: &QueryTrial) -> Option<i64> {
     None
 }
 
@@ -189,5 +238,34 @@ pub fn both(trial: &Trial, mark: i64) -> Result<Outcome, Box<[Outcome; 2]>> {
     match proved(trial, mark) {
         Some(theirs) if theirs != ours => Err(Box::new([ours, theirs])),
         _ => Ok(ours),
+    }
+}
+
+/// Puts a query to both programs. `Err` with both numbers where the proved planner is linked and differs.
+pub fn both_first_clear(trial: &QueryTrial) -> Result<FirstClear, [i64; 2]> {
+    let ours = trial.answer();
+    match planner_first_clear(trial) {
+        Some(theirs) if theirs != ours.number() => Err([ours.number(), theirs]),
+        _ => Ok(ours),
+    }
+}
+
+/// How many queries had each kind of answer.
+#[derive(Clone, Debug, Default, PartialEq, Eq)]
+pub struct ClearTally {
+    pub rows: usize,
+    pub none: usize,
+    /// By the refusal's number.
+    pub refused: BTreeMap<usize, usize>,
+}
+
+impl ClearTally {
+    pub fn count(&mut self, answer: FirstClear) {
+        let kind = match answer {
+            FirstClear::Row(_) => &mut self.rows,
+            FirstClear::NoRow => &mut self.none,
+            FirstClear::Refused(refusal) => self.refused.entry(refusal as usize).or_default(),
+        };
+        *kind += 1;
     }
 }

@@ -130,7 +130,7 @@ fn term(random: &mut Random, n: i64, factors: i64, coef: i64) -> Term {
 }
 
 /// A sheet that goes some way: the ratio of its first step is at most one half.
-fn calm(random: &mut Random) -> Sheet {
+pub fn calm(random: &mut Random) -> Sheet {
     let n = random.even(QUANTITIES);
     let reach = random.of(&[1 << 10, 1 << 24, 1 << 26, LIMIT / 2]);
     calm_of(random, n, n, reach)
@@ -233,7 +233,7 @@ fn at_the_tolerance(random: &mut Random) -> Sheet {
 }
 
 /// The rows that a sheet's passage writes.
-fn written(sheet: &Sheet) -> Vec<Vec<i64>> {
+pub fn written(sheet: &Sheet) -> Vec<Vec<i64>> {
     let mut rows = vec![0; sheet.places()];
     let count = match passage::run(sheet, &mut rows) {
         Ok(()) => sheet.steps as usize,

@@ -1,12 +1,15 @@
 //! Document 01 with its changes, implemented again from the documents alone: read a sheet, run a passage
-//! into a lent buffer, print the answer. The proved planner is compared with it, byte for byte.
+//! into a lent buffer, print the answer; find the first clear run in rows. The proved planner is compared with
+//! it, byte for byte.
 
 pub mod answer;
+pub mod clearance;
 pub mod compare;
 pub mod cost;
 pub mod explore;
 pub mod generate;
 pub mod passage;
+pub mod queries;
 pub mod random;
 pub mod rounding;
 pub mod rows;

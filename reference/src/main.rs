@@ -1,13 +1,14 @@
 //! `reference`: reads one sheet from standard input and prints its answer.
-//! Its other commands make random sheets, and compare and time the proved planner and this program.
+//! Its other commands make random sheets and queries, and compare and time the proved planner and this program.
 
 use reference::answer::answer;
-use reference::compare::{Ending, LINKED, Outcome, Tally, both};
+use reference::compare::{ClearTally, Ending, LINKED, Outcome, Tally, both, both_first_clear};
 use reference::cost::{Variant, degrees, products, variants};
 use reference::explore::Explorer;
 use reference::generate::{Trial, Trials, text};
+use reference::queries::{QueryTrial, QueryTrials};
 use reference::sheet::{MOST_BYTES, MOST_PLACES, read};
-use reference::timing::{Times, side_by_side};
+use reference::timing::{Times, longest_searches, search_side_by_side, side_by_side};
 use std::env;
 use std::io::{self, BufWriter, Read, Write};
 use std::process::{Command, ExitCode, Stdio};
@@ -17,9 +18,11 @@ const USAGE: &str = "\
 reference                      reads a sheet from standard input, prints its answer
 reference generate SEED COUNT  prints random sheets, each after a line `bytes=B places=P`
 reference compare SEED COUNT   runs random sheets through the proved planner and this program
+reference first-clear SEED COUNT  asks both for the first clear run in random rows
 reference explore SEED TIME    goes on for TIME seconds, altering sheets that ended in a new way
 reference program SEED COUNT FILE  runs random sheets through the program FILE and this one
 reference time ROUNDS FILE..   times both programs on each sheet, turn and turn about
+reference search ROUNDS        times both on the longest searches for the first clear run
 reference cost ROUNDS FILE     times both as a sheet's steps, terms and degree vary, one at a time
 ";
 
@@ -35,6 +38,8 @@ fn main() -> io::Result<ExitCode> {
         }
         (Some("generate"), Some(&[seed, count])) => generate(seed, count as usize),
         (Some("compare"), Some(&[seed, count])) => compare(seed, count as usize),
+        (Some("first-clear"), Some(&[seed, count])) => first_clear(seed, count as usize),
+        (Some("search"), Some(&[rounds])) if rounds > 0 => search(rounds as usize),
         (Some("explore"), Some(&[seed, seconds])) => explore(seed, Duration::from_secs(seconds)),
         _ => usage(),
     }
@@ -80,6 +85,32 @@ fn compare(seed: u64, count: usize) -> io::Result<ExitCode> {
     }
     summarise(&tally, seed);
     Ok(ExitCode::SUCCESS)
+}
+
+fn first_clear(seed: u64, count: usize) -> io::Result<ExitCode> {
+    let mut tally = ClearTally::default();
+    for trial in QueryTrials::from_seed(seed).take(count) {
+        match both_first_clear(&trial) {
+            Ok(answer) => tally.count(answer),
+            Err(numbers) => return report_first_clear(&trial, numbers),
+        }
+    }
+    println!("a row: {} queries", tally.rows);
+    println!("no row: {} queries", tally.none);
+    for (refusal, count) in &tally.refused {
+        println!("refusal {refusal}: {count} queries");
+    }
+    println!("{count} queries from seed {seed} {}", through());
+    Ok(ExitCode::SUCCESS)
+}
+
+/// Prints the rows and the query that the two programs differ on, and both answers.
+fn report_first_clear(trial: &QueryTrial, [ours, theirs]: [i64; 2]) -> io::Result<ExitCode> {
+    let mut output = io::stdout().lock();
+    writeln!(output, "the two programs differ on this query:")?;
+    writeln!(output, "{trial:?}")?;
+    writeln!(output, "reference {ours}, proved {theirs}")?;
+    Ok(ExitCode::FAILURE)
 }
 
 /// Runs random sheets through a program, which reads one from standard input, prints its answer and
@@ -151,12 +182,31 @@ fn time(rounds: &str, files: &[String]) -> io::Result<ExitCode> {
     println!("microseconds (least, median of {rounds}): plain Rust; proved");
     for file in files {
         let times = side_by_side(&std::fs::read(file)?, rounds);
-        print_times(file, times, |time| {
-            let (least, median) = (micro(time.least), micro(time.median));
-            format!("{least:.1}, {median:.1}")
-        });
+        print_times(file, times, least_and_median);
     }
     Ok(ExitCode::SUCCESS)
+}
+
+fn search(rounds: usize) -> io::Result<ExitCode> {
+    println!("microseconds (least, median of {rounds}): plain Rust; proved");
+    for trial in longest_searches() {
+        match both_first_clear(&trial) {
+            Ok(answer) => {
+                let QueryTrial { n, count, .. } = trial;
+                let (run, row) = (trial.query.run, answer.number());
+                let what = format!("{count} rows of {n} quantities, run={run}, first={row}");
+                let times = search_side_by_side(&trial, rounds);
+                print_times(&what, times, least_and_median);
+            }
+            Err(numbers) => return report_first_clear(&trial, numbers),
+        }
+    }
+    Ok(ExitCode::SUCCESS)
+}
+
+fn least_and_median(time: Times) -> String {
+    let (least, median) = (micro(time.least), micro(time.median));
+    format!("{least:.1}, {median:.1}")
 }
 
 fn cost(rounds: &str, file: &str) -> io::Result<ExitCode> {
@@ -224,12 +274,16 @@ fn summarise(tally: &Tally, seed: u64) {
         println!("result {result}: {count} sheets");
     }
     let total: usize = tally.results.iter().sum();
-    let with = if LINKED {
+    println!("{total} sheets from seed {seed} {}", through());
+}
+
+/// Which programs ran, where no difference was found.
+fn through() -> &'static str {
+    if LINKED {
         "through both programs, no difference"
     } else {
         "through this program alone (the proved planner is not linked)"
-    };
-    println!("{total} sheets from seed {seed} {with}");
+    }
 }
 
 /// Prints the trial that the two programs differ on, and where they do.

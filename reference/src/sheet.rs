@@ -26,7 +26,7 @@ pub const COEF: RangeInclusive<i64> = -(1 << 28)..=1 << 28;
 /// The places that suffice for every sheet's rows.
 pub const MOST_PLACES: usize = *STEPS.end() as usize * rows::width(MOST_QUANTITIES);
 
-/// Why a sheet or a passage is refused, by document 01's numbers.
+/// Why a sheet, a passage or a query is refused, by the documents' numbers.
 #[derive(Clone, Copy, Debug, PartialEq, Eq)]
 pub enum Refusal {
     TooLong = 1,
@@ -37,6 +37,8 @@ pub enum Refusal {
     ValueTooLarge = 6,
     StepTooLong = 7,
     RadiusTooLarge = 8,
+    QueryOutOfRange = 9,
+    RowOutOfRange = 10,
 }
 
 /// A quantity's start; `value` is `None` where the sheet says `none`.

@@ -1,12 +1,16 @@
-//! The two programs timed side by side: the same sheets, in one process, turn and turn about.
+//! The two programs timed side by side: the same sheets and searches, in one process, turn and turn about.
 
 use crate::answer::answer;
-use crate::compare::{LINKED, MOST_TEXT, planner_answer};
-use crate::sheet::MOST_PLACES;
+use crate::clearance::{COUNT, Query};
+use crate::compare::{LINKED, MOST_TEXT, planner_answer, planner_first_clear};
+use crate::queries::QueryTrial;
+use crate::rounding::SCALE;
+use crate::sheet::{MOST_PLACES, MOST_QUANTITIES};
 use std::hint::black_box;
+use std::iter::repeat_with;
 use std::time::{Duration, Instant};
 
-/// The least and the median time of one program on one sheet.
+/// The least and the median time of one program on one sheet, or of one search.
 #[derive(Clone, Copy, Debug)]
 pub struct Times {
     pub least: Duration,
@@ -27,19 +31,51 @@ fn timed<T>(work: impl FnOnce() -> T) -> Duration {
     begun.elapsed()
 }
 
-/// Times of this program and, where it is linked, of the proved planner. Each round runs both once.
-/// The buffers are made before and lent to every run, so what is timed is the answering; the text
-/// that this program makes for itself is part of that.
+/// Times of this program and, where it is linked, of the proved planner. Each turn times both once.
+fn turns(rounds: usize, turn: impl FnMut() -> (Duration, Duration)) -> (Times, Option<Times>) {
+    let (ours, theirs) = repeat_with(turn).take(rounds).unzip();
+    (times(ours), LINKED.then(|| times(theirs)))
+}
+
+/// The times of a sheet. The buffers are made before and lent to every run, so what is timed is the
+/// answering; the text that this program makes for itself is part of that.
 pub fn side_by_side(sheet: &[u8], rounds: usize) -> (Times, Option<Times>) {
     let mut rows = vec![0; MOST_PLACES];
     let mut text = vec![0; MOST_TEXT];
-    let mut ours = Vec::with_capacity(rounds);
-    let mut theirs = Vec::with_capacity(rounds);
-    for _ in 0..rounds {
-        ours.push(timed(|| answer(black_box(sheet), &mut rows)));
-        theirs.push(timed(|| {
-            planner_answer(black_box(sheet), &mut rows, &mut text)
-        }));
-    }
-    (times(ours), LINKED.then(|| times(theirs)))
+    turns(rounds, || {
+        let ours = timed(|| answer(black_box(sheet), &mut rows));
+        let theirs = timed(|| planner_answer(black_box(sheet), &mut rows, &mut text));
+        (ours, theirs)
+    })
+}
+
+/// The times of a search.
+pub fn search_side_by_side(trial: &QueryTrial, rounds: usize) -> (Times, Option<Times>) {
+    turns(rounds, || {
+        let ours = timed(|| black_box(trial).answer());
+        let theirs = timed(|| planner_first_clear(black_box(trial)));
+        (ours, theirs)
+    })
+}
+
+/// The searches that look at the most rows of the most quantities: for a single row where none is
+/// certain, and for all rows in a row where all are.
+pub fn longest_searches() -> [QueryTrial; 2] {
+    const VALUE: i64 = SCALE;
+    const RADIUS: i64 = SCALE / 1000;
+    let n = MOST_QUANTITIES;
+    let count = *COUNT.end();
+    let row = [vec![0], vec![VALUE; n], vec![RADIUS; n]].concat();
+    let surely = n as i64 * (VALUE - RADIUS);
+    [(surely + 1, 1), (surely, count)].map(|(need, run)| QueryTrial {
+        n,
+        count,
+        rows: row.repeat(count),
+        query: Query {
+            weights: [SCALE; MOST_QUANTITIES],
+            base: 0,
+            need,
+            run,
+        },
+    })
 }

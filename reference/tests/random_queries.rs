@@ -1,0 +1,247 @@
+//! The random rows and queries reach what they are made for: every kind of answer, and both sides of every edge.
+
+use reference::clearance::{FirstClear, NEED, ROW_VALUE, WEIGHT, first_clear, least_clearance};
+use reference::compare::ClearTally;
+use reference::queries::{QueryTrial, QueryTrials};
+use reference::rounding::SCALE;
+use reference::rows;
+use reference::sheet::Refusal;
+use std::collections::BTreeMap;
+
+const COUNT: usize = 60_000;
+const LEAST: usize = 200;
+
+const WEIGHT_END: i64 = *WEIGHT.end();
+const NEED_END: i64 = *NEED.end();
+const VALUE_END: i64 = *ROW_VALUE.end();
+
+/// The edges that a trial meets, by name.
+struct Edges {
+    met: BTreeMap<&'static str, usize>,
+}
+
+impl Edges {
+    /// Counts an edge; one that is never met stands there with 0.
+    fn count(&mut self, edge: &'static str, met: bool) {
+        *self.met.entry(edge).or_default() += usize::from(met);
+    }
+
+    fn meet(&mut self, trial: &QueryTrial) {
+        let answer = trial.answer();
+        self.meet_sizes(trial, answer);
+        self.meet_query(trial, answer);
+        self.meet_order(trial, answer);
+        self.meet_numbers(trial, answer);
+        self.meet_runs(trial, answer);
+    }
+
+    fn meet_sizes(&mut self, trial: &QueryTrial, answer: FirstClear) {
+        let QueryTrial { n, count, .. } = *trial;
+        let is_3 = answer == FirstClear::Refused(Refusal::OutOfRange);
+        self.count("n 0", is_3 && n == 0);
+        self.count("n 1", !is_3 && n == 1);
+        self.count("n 8", !is_3 && n == 8);
+        self.count("n 9", is_3 && n == 9);
+        self.count("n huge", is_3 && n > 1 << 32);
+        self.count("count 0", answer == FirstClear::NoRow && count == 0);
+        self.count("count 400", !is_3 && count == 400);
+        self.count("count 401", is_3 && count == 401);
+        self.count("count huge", is_3 && count >= 1 << 32);
+        if !is_3 {
+            let needed = count * rows::width(n);
+            let found = matches!(answer, FirstClear::Row(_));
+            let is_5 = answer == FirstClear::Refused(Refusal::BufferTooShort);
+            self.count("places just enough", found && trial.rows.len() == needed);
+            self.count("places to spare", found && trial.rows.len() > needed);
+            self.count("a place short", is_5 && trial.rows.len() + 1 == needed);
+        }
+    }
+
+    /// The ends of the query's ranges, where they are asked and pass; and one beyond, where that is refused.
+    fn meet_query(&mut self, trial: &QueryTrial, answer: FirstClear) {
+        let is_9 = answer == FirstClear::Refused(Refusal::QueryOutOfRange);
+        let passed = passed(answer);
+        if !(is_9 || passed) {
+            return;
+        }
+        let query = &trial.query;
+        let (weights, past) = query.weights.split_at(trial.n);
+        let any = |end: i64| weights.contains(&end);
+        self.count("weight at its low end", passed && any(-WEIGHT_END));
+        self.count("weight at its high end", passed && any(WEIGHT_END));
+        self.count("weight below", is_9 && any(-WEIGHT_END - 1));
+        self.count("weight above", is_9 && any(WEIGHT_END + 1));
+        let spoilt = past.iter().any(|weight| !WEIGHT.contains(weight));
+        self.count("weight past n out of range", passed && spoilt);
+        self.count("base at its low end", passed && query.base == -NEED_END);
+        self.count("base at its high end", passed && query.base == NEED_END);
+        self.count("base below", is_9 && query.base == -NEED_END - 1);
+        self.count("base above", is_9 && query.base == NEED_END + 1);
+        self.count("need at its low end", passed && query.need == -NEED_END);
+        self.count("need at its high end", passed && query.need == NEED_END);
+        self.count("need below", is_9 && query.need == -NEED_END - 1);
+        self.count("need above", is_9 && query.need == NEED_END + 1);
+        self.count("run 0", is_9 && query.run == 0);
+        self.count("run 1", passed && query.run == 1);
+        self.count("run 400", passed && query.run == 400);
+        self.count("run 401", is_9 && query.run == 401);
+        self.count("run huge", is_9 && query.run >= 1 << 32);
+    }
+
+    /// Trials that meet two refusals, or one where there are no rows.
+    fn meet_order(&mut self, trial: &QueryTrial, answer: FirstClear) {
+        let QueryTrial { n, count, .. } = *trial;
+        let FirstClear::Refused(refusal) = answer else {
+            return;
+        };
+        // With one quantity and no rows only the query is asked.
+        let query_refused = first_clear(1, 0, &[], &trial.query) != FirstClear::NoRow;
+        if refusal == Refusal::OutOfRange {
+            let short = (1..=8).contains(&n) && trial.rows.len() / rows::width(n) < count;
+            self.count("3 before 5", short);
+            self.count("3 before 9", query_refused);
+            return;
+        }
+        let mut rows = trial.rows.chunks_exact(rows::width(n)).take(count);
+        let row_refused = rows.any(|row| !in_range(row));
+        match refusal {
+            Refusal::BufferTooShort => {
+                self.count("5 before 9", query_refused);
+                self.count("5 before 10", row_refused);
+            }
+            Refusal::QueryOutOfRange => {
+                self.count("9 before 10", row_refused);
+                self.count("9 before no rows", count == 0);
+            }
+            _ => {}
+        }
+    }
+
+    /// The ends of the ranges of values and radii in the counted rows, and what is not asked.
+    fn meet_numbers(&mut self, trial: &QueryTrial, answer: FirstClear) {
+        let QueryTrial { n, count, .. } = *trial;
+        let is_10 = answer == FirstClear::Refused(Refusal::RowOutOfRange);
+        let passed = passed(answer);
+        if !(is_10 || passed) {
+            return;
+        }
+        let (counted, past) = trial.rows.split_at(count * rows::width(n));
+        let counted: Vec<&[i64]> = counted.chunks_exact(rows::width(n)).collect();
+        let value = |end| counted.iter().any(|row| rows::parts(row).1.contains(&end));
+        let radius = |end| counted.iter().any(|row| rows::parts(row).2.contains(&end));
+        self.count("value at its low end", passed && value(-VALUE_END));
+        self.count("value at its high end", passed && value(VALUE_END));
+        self.count("value below", is_10 && value(-VALUE_END - 1));
+        self.count("value above", is_10 && value(VALUE_END + 1));
+        self.count("value of 64 bits", is_10 && value(i64::MIN));
+        self.count("radius 0", passed && radius(0));
+        self.count("radius at its end", passed && radius(VALUE_END));
+        self.count("radius -1", is_10 && radius(-1));
+        self.count("radius above", is_10 && radius(VALUE_END + 1));
+        self.count("radius of 64 bits", is_10 && radius(i64::MIN));
+        let degree = |row: &&[i64]| !(-VALUE_END..=VALUE_END).contains(&row[0]);
+        self.count("any degree", passed && counted.iter().any(degree));
+        let junk = past.iter().any(|place| !ROW_VALUE.contains(place));
+        self.count("any number past the count", passed && junk);
+        if let Some(bad) = counted.iter().position(|row| !in_range(row)) {
+            let before = first_clear(n, bad, &trial.rows, &trial.query);
+            self.count("10 in the first row", bad == 0);
+            self.count("10 in the last row alone", bad + 1 == count);
+            self.count("10 after a run", matches!(before, FirstClear::Row(_)));
+        }
+    }
+
+    /// By how much rows are certain, and where the run stands among those that are.
+    fn meet_runs(&mut self, trial: &QueryTrial, answer: FirstClear) {
+        let QueryTrial { n, count, .. } = *trial;
+        if !passed(answer) {
+            return;
+        }
+        let run = trial.query.run;
+        let need = i128::from(trial.query.need) * i128::from(SCALE);
+        let rows = trial.rows.chunks_exact(rows::width(n)).take(count);
+        let margins = rows.map(|row| least_clearance(&trial.query, row) - need);
+        let margins: Vec<i128> = margins.collect();
+        let unit = i128::from(SCALE);
+        match answer {
+            FirstClear::Row(row) => {
+                let (before, rest) = margins.split_at(row - 1);
+                let stretches: Vec<&[i128]> = before.split(|&margin| margin < 0).collect();
+                let gap = stretches.iter().any(|stretch| !stretch.is_empty());
+                let one_short = stretches.iter().any(|stretch| stretch.len() == run - 1);
+                self.count("opened by 0", rest[0] == 0);
+                self.count("opened by one part", rest[0] == 1);
+                self.count("opened by less than a unit", (2..unit).contains(&rest[0]));
+                self.count("held by 0", rest[1..run].contains(&0));
+                self.count("the row before short by one part", before.ends_with(&[-1]));
+                self.count("row 1", row == 1);
+                self.count("a later row", row > 1);
+                self.count("after a gap", gap);
+                self.count("after a stretch one short", run > 1 && one_short);
+                self.count("at the very end", row > 1 && row + run - 1 == count);
+                self.count("all rows", run > 1 && run == count);
+                self.count("a run of 40 and more", run >= 40);
+            }
+            _ => {
+                let stretches = margins.split(|&margin| margin < 0);
+                let lengths: Vec<usize> = stretches.map(<[i128]>::len).collect();
+                let longest = lengths.iter().copied().max().unwrap_or(0);
+                let one_short = |length| run > 1 && length == run - 1;
+                let all = count > 0 && longest == count;
+                self.count("no row certain", count > 0 && longest == 0);
+                self.count("all certain, the run longer", all && run > count);
+                self.count("the longest stretch one short", one_short(longest));
+                let last = lengths.last().copied().unwrap_or(0);
+                self.count("one short at the very end", one_short(last));
+                self.count("short by one part", margins.contains(&-1));
+                let by_less = margins.iter().any(|margin| (-unit..-1).contains(margin));
+                self.count("short by less than a unit", by_less);
+            }
+        }
+    }
+}
+
+/// Whether all questions let a trial pass.
+fn passed(answer: FirstClear) -> bool {
+    !matches!(answer, FirstClear::Refused(_))
+}
+
+fn in_range(row: &[i64]) -> bool {
+    let (_, values, radii) = rows::parts(row);
+    let value = |value: &i64| (-VALUE_END..=VALUE_END).contains(value);
+    let radius = |radius: &i64| (0..=VALUE_END).contains(radius);
+    values.iter().all(value) && radii.iter().all(radius)
+}
+
+#[test]
+fn every_kind_of_answer_and_every_edge_is_met_by_hundreds() {
+    let mut tally = ClearTally::default();
+    let mut edges = Edges {
+        met: BTreeMap::new(),
+    };
+    for trial in QueryTrials::from_seed(1).take(COUNT) {
+        tally.count(trial.answer());
+        edges.meet(&trial);
+    }
+    println!("{tally:?}");
+    for (edge, count) in &edges.met {
+        println!("{edge}: {count}");
+    }
+    assert!(tally.rows.min(tally.none) >= COUNT / 8);
+    let refused: Vec<usize> = tally.refused.keys().copied().collect();
+    assert_eq!(refused, [3, 5, 9, 10]);
+    assert!(tally.refused.values().all(|&count| count >= COUNT / 40));
+    for (edge, count) in edges.met {
+        assert!(count >= LEAST, "{edge}: {count}");
+    }
+}
+
+#[test]
+fn a_seed_always_gives_the_same_queries() {
+    let some = |seed| {
+        let trials = QueryTrials::from_seed(seed).take(50);
+        trials.collect::<Vec<QueryTrial>>()
+    };
+    assert_eq!(some(7), some(7));
+    assert_ne!(some(7), some(8));
+}
