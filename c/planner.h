@@ -3,8 +3,8 @@
  *
  * Build the library, which proves it first, and link a program with it; nothing else is needed but the C library:
  *
- *     rt staticlib answer
- *     cc -Ic program.c target/staticlib/libanswer.a
+ *     scripts/library
+ *     cc -Ic program.c target/libplanner.a
  *
  * The functions keep no state, allocate nothing and neither read nor write, so any number of threads may call them at the
  * same time, each with buffers of its own. A call needs less than 64 kB of stack.
@@ -27,6 +27,11 @@ extern "C" {
 #define PLANNER_ROWS_LENGTH 6800
 #define PLANNER_TEXT_LENGTH 204454
 
+/* The most quantities and the most steps that a sheet may have; how many units make 1. */
+#define PLANNER_MOST_QUANTITIES 8
+#define PLANNER_MOST_STEPS 400
+#define PLANNER_SCALE 16777216
+
 /*
  * A row of n quantities in the rows buffer: its degree, its n values and its n radii, in units. The rows stand one after
  * another; row j, from 0, has its degree, and the value and the radius of quantity i, from 0, at these places.
@@ -37,7 +42,7 @@ extern "C" {
 #define PLANNER_RADIUS_PLACE(n, j, i) (PLANNER_DEGREE_PLACE(n, j) + 1 + (n) + (i))
 
 /*
- * What both functions are given:
+ * What planner_answer and planner_run are given:
  *
  *   sheet, sheet_length   the bytes of the sheet; they need not end in a zero
  *   rows, rows_length     places for the rows: after the call, steps rows of PLANNER_ROW_WIDTH(n) places each, or those
@@ -71,6 +76,43 @@ enum planner_summary {
 void planner_run(const uint8_t *sheet, size_t sheet_length,
                  int64_t *rows, size_t rows_length,
                  uint64_t summary[PLANNER_SUMMARY_LENGTH]);
+
+/*
+ * First water for a ship: looks through rows for the first run of so many rows in a row that are certain to clear a need.
+ * The clearance is a base and a weighed sum of the quantities.
+ *
+ *   n, count              the rows' quantities, 1 to PLANNER_MOST_QUANTITIES, and how many rows are looked through, 0 to
+ *                         PLANNER_MOST_STEPS; planner_run's summary has both of the rows that it wrote
+ *   rows, rows_length     the rows, at their places above; no place past the count rows is looked at
+ *   weights               for each quantity a weight, -67108864 to 67108864; there have to be PLANNER_MOST_QUANTITIES
+ *                         places, but those past n are not looked at
+ *   base, need            each -536870912 to 536870912
+ *   run                   how many rows in a row, 1 to PLANNER_MOST_STEPS
+ *
+ * Weights, base and need are in units, of which 2^24 (PLANNER_SCALE) make 1: a weight of PLANNER_SCALE takes a quantity as
+ * it is. A row is certain where the least clearance within its radii is the need or more, to the last part of a unit:
+ *
+ *     base * 2^24 + the sum of weight * value - the sum of |weight| * radius >= need * 2^24
+ *
+ * Gives the number, from 1, of the first row that opens a run of `run` certain rows, all of them among the count rows; 0
+ * where no row does; or minus the number of a refusal, the first of these that there is cause for:
+ *
+ *   3    n or count is out of its range
+ *   5    rows_length is less than count * PLANNER_ROW_WIDTH(n)
+ *   9    one of the n weights, base, need or run is out of its range
+ *   10   in any of the count rows, also after such a run, a value is outside -2^31 to 2^31 or a radius outside 0 to 2^31;
+ *        the degrees are not looked at
+ *
+ * What a pilot may say of it, where planner_run or planner_answer wrote the rows (all that they wrote, or the first count of
+ * them): the exact state of every certain row clears the need, whatever exact start lies within the sheet's radii, and
+ * with exact sums of whatever degrees no lower than the printed ones. Nothing is said of the water between two rows.
+ *
+ * The arrays are only read. No pointer may be null, even with the length or the count 0.
+ */
+int64_t planner_first_clear(size_t n, size_t count,
+                            const int64_t *rows, size_t rows_length,
+                            const int64_t weights[PLANNER_MOST_QUANTITIES],
+                            int64_t base, int64_t need, size_t run);
 
 #ifdef __cplusplus
 }
