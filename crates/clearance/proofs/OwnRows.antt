@@ -1,6 +1,6 @@
 -- The rows that a passage has written itself: they are in their ranges and in their places, so that of the questions only those on n and on the
 -- query are left; and demand 3 holds of them without a premise. Assumes nothing.
-use Prim.Native.Nat.{ℕ, zero, suc, _*_, _≤_, _<_}
+use Prim.Native.Nat.{ℕ, _*_, _≤_, _<_}
 use mathlib.Core.Bool.{Bool, true, false}
 use mathlib.Core.List.{List}
 use mathlib.Core.Logic.{_⊎_, inl, inr}
@@ -8,11 +8,11 @@ use mathlib.Core.Path.{_≡_, refl, sym, ap, _∙_}
 use native.Mathlib.Omega.{arith}
 use borrow.Author.Tests.{le-leb}
 use lib.Dec.{leb}
-use lib.IntN.{ℤ, pos, negsuc, natAbs}
+use lib.IntN.{ℤ, pos}
 use lib.ListN.{length, getD, take}
 use lib.Seq.{length-take-le, getD-take}
 use Rattle.model.specs.Range.{every}
-use Rattle.model.specs.Sheet.{most, most-steps, Verdict, passes, refuses, ask, _then_, from_to_, ±_, within, inRange, n-limits, headVerdict, sheetVerdictTo}
+use Rattle.model.specs.Sheet.{most, most-steps, Verdict, passes, refuses, ask, _then_, within, inRange, n-limits, headVerdict, sheetVerdictTo}
 use Rattle.model.specs.Step.{Row}
 use Rattle.model.specs.Rows.{width, values-part, radii-part, partPlace, places, written, rowsIn}
 use Rattle.model.specs.Passage.{Run, refused, passage, rowsWritten, Kept}
@@ -27,6 +27,7 @@ use Rattle.model.proofs.RowRange.{InRange, passage-in-range, passage-few, passa
 use Rattle.model.proofs.Rows.{Wide, each-at, places-length, row-written, written-length, value-written, radius-written}
 use Rattle.model.proofs.Ranges.{tabulate-is}
 use Rattle.model.proofs.Tests.{every-all}
+use Rattle.model.proofs.Verdicts.{natural-passes, signed-passes}
 use Rattle.clearance.specs.Clearance.{count-limits, most-place, row-value-limits, row-radius-limits, queryWithin, rowWithin, clearVerdict, firstRun, firstClear}
 use Rattle.clearance.specs.Claim.{Wrote, Said, SaidOf}
 use Rattle.clearance.specs.declared.Query.{Query}
@@ -34,19 +35,6 @@ use Rattle.clearance.specs.declared.Found.{Found}
 use Rattle.clearance.specs.declared.Found.the-variants.{Refused}
 use Rattle.clearance.proofs.FirstRun.{search-refuses-nothing}
 use Rattle.clearance.proofs.Said.{answered}
-
--- ---- numbers within their limits
-
-signed-passes : (high : ℕ) (z : ℤ) → natAbs z ≤ high → within (± high) z ≡ true
-unfolding ±_ within
-signed-passes zero (pos n) h = rw (le-leb 0 n (omega arith), le-leb n 0 h)
-signed-passes (suc high) (pos n) h = le-leb n (suc high) h
-signed-passes zero (negsuc n) h = absurd (omega arith)
-signed-passes (suc high) (negsuc n) h = rw (le-leb n high (omega arith))
-
-natural-passes : {low high : ℕ} (n : ℕ) → low ≤ n → n ≤ high → within (from low to high) (pos n) ≡ true
-unfolding from_to_ within
-natural-passes {low} {high} n l h = rw (le-leb low n l, le-leb n high h)
 
 then-passes : (v : Verdict) → (v then passes) ≡ v
 unfolding _then_

@@ -1,11 +1,11 @@
 -- What the questions before the search say: the ranges of the query and of a row; and so no sum that weighs a row reaches 2^62. Assumes nothing.
 use Prim.Native.Nat.{ℕ, _*_, _^_, _≤_, _<_}
-use mathlib.Core.Bool.{true, false≢true}
+use mathlib.Core.Bool.{true}
 use mathlib.Core.List.{List}
 use mathlib.Core.Path.{_≡_, ap, _∙_}
 use native.Mathlib.Nat.{le-trans, mul-le-mul}
 use native.Mathlib.Omega.{arith}
-use lib.IntN.{ℤ, pos, negsuc, natAbs, _+ℤ_, _-ℤ_, _*ℤ_}
+use lib.IntN.{ℤ, pos, natAbs, _+ℤ_, _-ℤ_, _*ℤ_}
 use lib.ListN.{length, getD}
 use mir.Syntax.{w64}
 use mir.Val.{SFits, toZ, ofZ}
@@ -13,26 +13,14 @@ use mir.Facts.{toZ-ofZ}
 use Rattle.rounding.proofs.Machine.{sfits-abs}
 use Rattle.rounding.proofs.Integers.{abs-mul, abs-add, abs-sub-le}
 use Rattle.model.specs.Range.{sum, sumℤ, every}
-use Rattle.model.specs.Sheet.{scale, most, most-quantities, most-steps, from_to_, ±_, within, inRange, ask}
+use Rattle.model.specs.Sheet.{scale, most, most-quantities, most-steps, within}
 use Rattle.model.specs.Step.{no-ball, Row}
 use Rattle.model.specs.Rows.{values-part, partPlace, rowIn, rowsIn}
 use Rattle.model.proofs.Ranges.{abs-sumℤ-le, sum-le, sum-constant, length-tabulate}
-use Rattle.model.proofs.SheetBounds.{signed-magnitude}
-use Rattle.model.proofs.Verdicts.{both-true, every-holds, in-range}
+use Rattle.model.proofs.Verdicts.{both-true, every-holds, natural-within, signed-within}
 use Rattle.rows.proofs.Places.{value-read, radius-read}
 use Rattle.clearance.specs.Clearance.{weight, assured, most-weight, most-place, weight-limits, depth-limits, run-limits, row-value-limits, row-radius-limits, queryWithin, rowWithin}
 use Rattle.clearance.specs.declared.Query.{Query}
-
--- ---- numbers in their limits
-
-pub signed-within : (high : ℕ) (z : ℤ) → within (± high) z ≡ true → natAbs z ≤ high
-unfolding inRange ask
-signed-within high z h = signed-magnitude high z (rw h)
-
-pub natural-within : {low high : ℕ} (z : ℤ) → within (from low to high) z ≡ true → (low ≤ natAbs z) × (natAbs z ≤ high)
-unfolding inRange ask from_to_ within
-natural-within {low} {high} (pos n) h = in-range {low = low} {high = high} n (rw h)
-natural-within (negsuc n) h = absurd (false≢true h)
 
 -- ---- the query and a row
 

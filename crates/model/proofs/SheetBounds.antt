@@ -1,7 +1,7 @@
 -- A sheet whose verdict passes, and a step whose questions 4 and 5 are answered yes, give what the bounds on the working numbers rest on.
 -- Assumes nothing.
 use Prim.Native.Nat.{ℕ, zero, suc, _≤_, _<_}
-use mathlib.Core.Bool.{true, false≢true}
+use mathlib.Core.Bool.{true}
 use mathlib.Core.List.{List}
 use mathlib.Core.Path.{_≡_, refl}
 use native.Mathlib.Nat.{le-trans, mul-le-mul-right}
@@ -9,32 +9,17 @@ use native.Mathlib.Decide.{decLt}
 use native.Mathlib.Omega.{arith}
 use borrow.Author.Tests.{leb-true}
 use lib.Dec.{leb}
-use lib.IntN.{ℤ, pos, negsuc, natAbs}
+use lib.IntN.{ℤ, pos, natAbs}
 use lib.ListN.{length, getD, List·getD-eq-default}
-use lib.Signed.{leZ}
-use Rattle.model.specs.Sheet.{passes, Limits, ±_, within, inRange, sheetVerdict, no-term, scale, most, most-terms, most-coef, terms-limits, to-limits, first-limits, coef-limits, second-limits, termsOf, most-quantities, most-steps, n-limits, steps-limits, tail-limits, tol-limits}
+use Rattle.model.specs.Sheet.{passes, inRange, sheetVerdict, no-term, scale, most, most-terms, most-coef, terms-limits, to-limits, first-limits, coef-limits, second-limits, termsOf, most-quantities, most-steps, n-limits, steps-limits, tail-limits, tol-limits}
 use Rattle.model.specs.Step.{Ball, no-ball, reach, greatest, ratio}
 use Rattle.model.specs.Passage.{small, slow, most-ratio}
-use Rattle.model.specs.declared.Refusal.the-variants.{OutOfRange}
 use Rattle.model.specs.declared.Sheet.{Sheet}
 use Rattle.model.specs.declared.Term.{Term}
 use Rattle.model.proofs.Ranges.{sum-le, sum-constant}
 use Rattle.model.proofs.Listed.{length-listed, getD-listed}
 use Rattle.model.specs.Bounds.{total, most-total, TermsInBounds, InBounds}
-use Rattle.model.proofs.Verdicts.{answered-yes, both-true, every-holds, in-range, step-in-range, TermInRange, SheetInRange, sheet-in-range}
-
--- ---- magnitudes by range
-
-tests : (limits : Limits) (z : ℤ) → inRange limits z ≡ passes → (leZ (limits .low) z ≡ true) × (leZ z (limits .high) ≡ true)
-unfolding inRange within
-tests limits z e =
-    both-true (leZ (limits .low) z) (leZ z (limits .high)) (answered-yes (within limits z) OutOfRange e)
-
-pub signed-magnitude : (high : ℕ) (z : ℤ) → inRange (± high) z ≡ passes → natAbs z ≤ high
-unfolding ±_
-signed-magnitude high (pos n) e = leb-true n high (tests (± high) (pos n) e .1)
-signed-magnitude zero (negsuc n) e = absurd (false≢true (tests (± 0) (negsuc n) e .0))
-signed-magnitude (suc high) (negsuc n) e = omega (arith, leb-true n high (tests (± suc high) (negsuc n) e .0))
+use Rattle.model.proofs.Verdicts.{every-holds, in-range, signed-magnitude, step-in-range, TermInRange, SheetInRange, sheet-in-range}
 
 -- ---- the terms of a sheet
 

@@ -1,17 +1,18 @@
 -- What a verdict that passes says: every question in it passes, and every number asked about lies in its range.
 -- Assumes nothing.
 use Prim.Native.Nat.{ℕ, zero, suc, _≤_, _<_}
-use mathlib.Core.Bool.{Bool, true, false, _&&_}
+use mathlib.Core.Bool.{Bool, true, false, _&&_, false≢true}
 use mathlib.Core.Logic.{⊎-elim}
 use mathlib.Core.Path.{_≡_, refl, ap₂}
 use native.Mathlib.Nat.{eq-or-lt-of-le}
 use native.Mathlib.Omega.{arith}
 use borrow.Author.Tests.{leb-true, le-leb}
 use lib.Dec.{leb}
-use lib.IntN.{ℤ, pos, natAbs}
+use lib.IntN.{ℤ, pos, negsuc, negℤ, natAbs}
 use lib.ListN.{getD}
+use lib.Signed.{leZ}
 use Rattle.model.specs.Range.{every}
-use Rattle.model.specs.Sheet.{most-quantities, most-steps, Verdict, passes, refuses, ask, _then_, inOrder, from_to_, within, scale, n-limits, steps-limits, step-limits, stepWithin, tail-limits, tol-limits, terms-limits, to-limits, coef-limits, first-limits, second-limits, inRange, stepVerdict, headVerdict, quantityVerdict, quantitiesVerdict, termVerdict, termsVerdict, no-quantity, no-term, sheetVerdictTo, sheetVerdict}
+use Rattle.model.specs.Sheet.{most-quantities, most-steps, Verdict, passes, refuses, ask, _then_, inOrder, from_to_, ±_, within, scale, n-limits, steps-limits, step-limits, stepWithin, tail-limits, tol-limits, terms-limits, to-limits, coef-limits, first-limits, second-limits, inRange, stepVerdict, headVerdict, quantityVerdict, quantitiesVerdict, termVerdict, termsVerdict, no-quantity, no-term, sheetVerdictTo, sheetVerdict}
 use Rattle.model.specs.declared.Refusal.{Refusal}
 use Rattle.model.specs.declared.Refusal.the-variants.{OutOfRange}
 use Rattle.model.specs.declared.Head.{Head}
@@ -59,11 +60,40 @@ every-holds (suc n) f e i lt =
 
 -- ---- ranges
 
-pub in-range : {low high : ℕ} (n : ℕ) → inRange (from low to high) (pos n) ≡ passes → (low ≤ n) × (n ≤ high)
-unfolding inRange from_to_ within
-in-range {low} {high} n e =
-    let both = both-true (leb low n) (leb n high) (answered-yes (leb low n && leb n high) OutOfRange e) in
+-- a natural number in its limits, and back
+pub natural-within : {low high : ℕ} (z : ℤ) → within (from low to high) z ≡ true → (low ≤ natAbs z) × (natAbs z ≤ high)
+unfolding from_to_ within
+natural-within {low} {high} (pos n) e =
+    let both = both-true (leb low n) (leb n high) e in
     (leb-true low n (both .0), leb-true n high (both .1))
+natural-within (negsuc n) e = absurd (false≢true e)
+
+pub natural-passes : {low high : ℕ} (n : ℕ) → low ≤ n → n ≤ high → within (from low to high) (pos n) ≡ true
+unfolding from_to_ within
+natural-passes {low} {high} n l h = rw (le-leb low n l, le-leb n high h)
+
+-- the same of a number with its sign
+pub signed-within : (high : ℕ) (z : ℤ) → within (± high) z ≡ true → natAbs z ≤ high
+unfolding ±_ within
+signed-within high (pos n) e = leb-true n high (both-true (leZ (negℤ (pos high)) (pos n)) (leb n high) e .1)
+signed-within zero (negsuc n) e = absurd (false≢true e)
+signed-within (suc high) (negsuc n) e = omega (arith, leb-true n high (both-true (leb n high) true e .0))
+
+pub signed-passes : (high : ℕ) (z : ℤ) → natAbs z ≤ high → within (± high) z ≡ true
+unfolding ±_ within
+signed-passes zero (pos n) h = rw (le-leb 0 n (omega arith), le-leb n 0 h)
+signed-passes (suc high) (pos n) h = le-leb n (suc high) h
+signed-passes zero (negsuc n) h = absurd (omega arith)
+signed-passes (suc high) (negsuc n) h = rw (le-leb n high (omega arith))
+
+-- as questions
+pub in-range : {low high : ℕ} (n : ℕ) → inRange (from low to high) (pos n) ≡ passes → (low ≤ n) × (n ≤ high)
+unfolding inRange
+in-range {low} {high} n e = natural-within {low = low} {high = high} (pos n) (answered-yes (within (from low to high) (pos n)) OutOfRange e)
+
+pub signed-magnitude : (high : ℕ) (z : ℤ) → inRange (± high) z ≡ passes → natAbs z ≤ high
+unfolding inRange
+signed-magnitude high z e = signed-within high z (answered-yes (within (± high) z) OutOfRange e)
 
 -- a step that passes is at least one unit long and at most one whole, forward or back ..
 pub step-in-range : (H : ℤ) → stepVerdict H ≡ passes → (1 ≤ natAbs H) × (natAbs H ≤ scale)
@@ -72,8 +102,8 @@ step-in-range H e = in-range {low = 1} {high = scale} (natAbs H) e
 
 -- .. and every such step passes
 pub step-passes : (H : ℤ) → 1 ≤ natAbs H → natAbs H ≤ scale → stepVerdict H ≡ passes
-unfolding stepVerdict stepWithin step-limits from_to_ within ask
-step-passes H low high = rw (le-leb 1 (natAbs H) low, le-leb (natAbs H) scale high)
+unfolding stepVerdict stepWithin step-limits ask
+step-passes H low high = rw (natural-passes {low = 1} {high = scale} (natAbs H) low high)
 
 -- ---- a sheet
 

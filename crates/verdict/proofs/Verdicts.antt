@@ -1,18 +1,17 @@
 -- Questions one after the other, as outcomes: what an verdictOutcome says of the verdict that it stands for.
-use Prim.Native.Nat.{ℕ, zero, suc, _+_, _<_, _≤_}
+use Prim.Native.Nat.{ℕ, zero, suc, _+_, _<_}
 use mathlib.Core.Path.{_≡_, refl, sym, ap, _∙_}
 use mathlib.Core.Bool.{Bool, true, false, not}
 use native.Mathlib.Omega.{arith}
 use native.Mathlib.Numerals.{add-one}
 use borrow.Author.Tests.{ltb-true, ltb-false, not-true, not-false}
 use lib.Dec.{ltb}
-use lib.IntN.{ℤ, pos}
-use Rattle.model.specs.Sheet.{result, refusedStep, Gives, Verdict, passes, refuses, verdictNumber, verdictOutcome, ask, _then_, inOrder, from_to_, within, inRange}
+use lib.IntN.{ℤ}
+use Rattle.model.specs.Sheet.{result, refusedStep, Gives, Verdict, passes, refuses, verdictNumber, verdictOutcome, _then_, inOrder, within}
 use Rattle.model.specs.declared.Limits.{Limits}
 use Rattle.model.specs.declared.Refusal.{Refusal}
 use Rattle.model.specs.declared.Outcome.{Outcome}
 use Rattle.model.specs.declared.Outcome.the-variants.{Accepted, Refused}
-use Rattle.model.proofs.Verdicts.{in-range}
 
 pub passes-as : (v : Verdict) {o : Outcome} → o ≡ verdictOutcome v → o ≡ Accepted → v ≡ passes
 unfolding verdictOutcome
@@ -63,12 +62,6 @@ module _ (f : ℕ → Verdict) where
         where
           at-last : n ≡ i
           at-last = omega (arith, ltb-false i n last)
-
--- ---- what a number in its range is
-
-pub at-most : (low high m : ℕ) → within (from low to high) (pos m) ≡ true → m ≤ high
-unfolding inRange ask
-at-most low high m h = in-range {low = low} {high = high} m (rw h) .1
 
 -- ---- a verdict as document 01's numbers
 

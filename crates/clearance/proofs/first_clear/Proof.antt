@@ -13,7 +13,7 @@ use Rattle.model.specs.Rows.{width}
 use Rattle.model.proofs.Rows.{rows-fit}
 use Rattle.rows.specs.Room.{HasRows}
 use Rattle.clearance.specs.Clearance.{count-limits}
-use Rattle.clearance.proofs.Ranges.{natural-within}
+use Rattle.model.proofs.Verdicts.{natural-within}
 use Rattle.clearance.proofs.Said.{n-refused, count-refused, places-refused, query-refused, rows-refused, search-decides}
 use Rattle.clearance.proofs.first_clear.Statement.{statement}
 use Rattle.clearance.proofs.first_clear.Tie as tie

@@ -10,7 +10,8 @@ use lib.IntN.{pos}
 use lib.ListN.{getD}
 use Rattle.model.specs.Sheet.{most-terms, Verdict, passes, ask, _then_, inOrder, from_to_, within, terms-limits, inRange, termVerdict, termsVerdict, no-term}
 use Rattle.model.specs.declared.Terms.{Terms}
-use Rattle.verdict.proofs.Verdicts.{answered-no, answered-yes, one-more, first-refusal, at-most}
+use Rattle.model.proofs.Verdicts.{natural-within}
+use Rattle.verdict.proofs.Verdicts.{answered-no, answered-yes, one-more, first-refusal}
 use Rattle.verdict.proofs.terms_within.Statement.{statement}
 use Rattle.verdict.proofs.terms_within.Tie as tie
 
@@ -33,7 +34,7 @@ count-passed c = answered-yes _ (count-asked (c .before)) refl (c .if1 .left)
 
 count-fits : (c : tie.Else1 Inv-loop μ-loop) → c .before .before .args .t2 .count ≤ most-terms
 unfolding terms-limits
-count-fits c = at-most 0 most-terms _ (count-passed c)
+count-fits c = natural-within {low = 0} {high = most-terms} (pos _) (count-passed c) .1
 
 returns : tie.Need-returns Inv-loop μ-loop
 unfolding termsVerdict inRange ask _then_
