@@ -15,6 +15,7 @@ use Rattle.model.specs.Range.{every}
 use Rattle.model.specs.Sheet.{most, most-steps, Verdict, passes, refuses, ask, _then_, within, inRange, n-limits, headVerdict, sheetVerdictTo}
 use Rattle.model.specs.Step.{Row}
 use Rattle.model.specs.Rows.{width, values-part, radii-part, partPlace, places, written, rowsIn}
+use Rattle.model.specs.Bounds.{Printable}
 use Rattle.model.specs.Passage.{Run, refused, passage, rowsWritten, Kept}
 use Rattle.model.specs.Trust.{no-row}
 use Rattle.model.specs.declared.Outcome.{Outcome}
@@ -23,7 +24,7 @@ use Rattle.model.specs.declared.Refusal.{Refusal}
 use Rattle.model.specs.declared.Refusal.the-variants.{OutOfRange, TooFewPlaces, QueryOutOfRange, RowOutOfRange}
 use Rattle.model.specs.declared.Sheet.{Sheet}
 use Rattle.model.proofs.Passages.{rows-of-passage, passage-refused}
-use Rattle.model.proofs.RowRange.{InRange, passage-in-range, passage-few, passage-fits}
+use Rattle.model.proofs.RowRange.{passage-in-range, passage-few, passage-fits}
 use Rattle.model.proofs.Rows.{Wide, each-at, places-length, row-written, written-length, value-written, radius-written}
 use Rattle.model.proofs.Ranges.{tabulate-is}
 use Rattle.model.proofs.Tests.{every-all}
@@ -50,7 +51,7 @@ module _ (sheet : Sheet) (before : List ℤ) where
   wide : Wide (sheet .head .n) rows
   wide = rows-of-passage sheet (length before) .wide
 
-  in-range : (j : ℕ) → j < length rows → InRange (getD rows j no-row)
+  in-range : (j : ℕ) → j < length rows → Printable (getD rows j no-row)
   in-range = each-at (passage-in-range sheet (length before))
 
   row-passes : (j : ℕ) → j < length rows → rowWithin (sheet .head .n) (written rows before) j ≡ true

@@ -2,13 +2,13 @@
 use Prim.Native.Nat.{ℕ, zero, suc, _+_, _≤_, _<_}
 use mathlib.Core.Path.{_≡_, refl, ap, _∙_}
 use mathlib.Core.Bool.{Bool, true, false}
-use mathlib.Core.List.{List}
+use mathlib.Core.List.{List, [], _∷_}
 use native.Mathlib.Omega.{arith}
 use borrow.Author.Tests.{le-leb, lt-leb, leb-true, leb-false}
 use lib.IntN.{ℤ}
 use lib.Dec.{leb}
 use lib.ListN.{length}
-use Rattle.model.specs.Sheet.{Verdict, passes, refuses, sheetVerdict, termsOf, startsOf}
+use Rattle.model.specs.Sheet.{refusedStep, Verdict, passes, refuses, sheetVerdict, termsOf, startsOf}
 use Rattle.model.specs.Step.{Ball, Row}
 use Rattle.model.specs.Passage.{Advance, moves, stops, advance, Run, refused, goOn, follow, placesNeeded, run, passage, rowsWritten}
 use Rattle.model.specs.declared.Term.{Term}
@@ -42,6 +42,41 @@ unfolding run startsOf
 run-each sheet P holds =
     follow-each (termsOf sheet) (sheet .head .step) (sheet .head .tail) (sheet .head .tol) (sheet .head .n) P holds (sheet .head .steps) 1 (startsOf sheet) (length-tabulate (sheet .head .n) _)
 
+-- ---- what every row has that another one follows
+
+pub data AllButLast (P : Row → Type 0) : List Row → Type 0 where
+  empty : AllButLast P []
+  last : {row : Row} → AllButLast P (row ∷ [])
+  earlier : {row next : Row} {rows : List Row} → P row → AllButLast P (next ∷ rows) → AllButLast P (row ∷ next ∷ rows)
+
+-- what all balls of n quantities have that a step moves from
+module _ (terms : List Term) (H : ℤ) (limit tol n : ℕ) (P : List Ball → Type 0)
+    (holds : (balls : List Ball) (row : Row) → length balls ≡ n → advance terms H limit tol balls ≡ moves row → P balls) where
+  joined : (row : Row) → length (row .balls) ≡ n → (left step : ℕ) → AllButLast (λ row. P (row .balls)) (follow terms H limit tol left step (row .balls) .rows) → AllButLast (λ row. P (row .balls)) (row ∷ follow terms H limit tol left step (row .balls) .rows)
+  unfolding follow goOn refused
+  joined row l zero step later = last
+  joined row l (suc left) step later = go (advance terms H limit tol (row .balls)) refl later
+    where
+      go : (next : Advance) → advance terms H limit tol (row .balls) ≡ next → AllButLast (λ row. P (row .balls)) (goOn next step (λ row. follow terms H limit tol left (suc step) (row .balls)) .rows) → AllButLast (λ row. P (row .balls)) (row ∷ goOn next step (λ row. follow terms H limit tol left (suc step) (row .balls)) .rows)
+      go (moves next) e later = earlier (holds (row .balls) next l e) later
+      go (stops r) e later = last
+
+  follow-earlier : (left step : ℕ) (balls : List Ball) → length balls ≡ n → AllButLast (λ row. P (row .balls)) (follow terms H limit tol left step balls .rows)
+  unfolding follow goOn refused
+  follow-earlier zero step balls l = empty
+  follow-earlier (suc left) step balls l = go (advance terms H limit tol balls) refl (λ row m. follow-earlier left (suc step) (row .balls) m)
+    where
+      go : (next : Advance) → advance terms H limit tol balls ≡ next → ((row : Row) → length (row .balls) ≡ n → AllButLast (λ row. P (row .balls)) (follow terms H limit tol left (suc step) (row .balls) .rows)) → AllButLast (λ row. P (row .balls)) (goOn next step (λ row. follow terms H limit tol left (suc step) (row .balls)) .rows)
+      go (moves row) e later =
+          let m : length (row .balls) ≡ n = quantities-stay terms H limit tol balls e ∙ l in
+          joined row m left (suc step) (later row m)
+      go (stops r) e later = empty
+
+pub run-earlier : (sheet : Sheet) (P : List Ball → Type 0) → ((balls : List Ball) (row : Row) → length balls ≡ sheet .head .n → advance (termsOf sheet) (sheet .head .step) (sheet .head .tail) (sheet .head .tol) balls ≡ moves row → P balls) → AllButLast (λ row. P (row .balls)) (run sheet .rows)
+unfolding run startsOf
+run-earlier sheet P holds =
+    follow-earlier (termsOf sheet) (sheet .head .step) (sheet .head .tail) (sheet .head .tol) (sheet .head .n) P holds (sheet .head .steps) 1 (startsOf sheet) (length-tabulate (sheet .head .n) _)
+
 -- ---- how many rows a passage has
 
 -- after so many steps more from step number `step`, so many rows: all where every step moves, the earlier ones where one is refused
@@ -67,11 +102,12 @@ follow-counts terms H limit tol zero step balls = all refl
 follow-counts terms H limit tol (suc left) step balls =
     go-on-counts left step (advance terms H limit tol balls) _ (λ row. follow-counts terms H limit tol left (suc step) (row .balls))
 
--- a passage's rows: each of n quantities, as many as its outcome says, and never more than `steps`
+-- a passage's rows: each of n quantities, as many as its outcome says, and never more than `steps`; nor is a step past these refused
 pub record Rows (sheet : Sheet) (run : Run) : Type 0 where
   pub wide : Wide (sheet .head .n) (run .rows)
   pub count : length (run .rows) ≡ rowsWritten sheet (run .outcome)
   pub fits : length (run .rows) ≤ sheet .head .steps
+  pub refused-at : refusedStep (run .outcome) ≤ sheet .head .steps
 
 pub rows-of-run : (sheet : Sheet) → Rows sheet (run sheet)
 unfolding run rowsWritten
@@ -81,6 +117,7 @@ rows-of-run sheet =
       wide = run-each sheet (λ row. length (row .balls) ≡ sheet .head .n) (λ balls row l e. quantities-stay _ _ _ _ balls e ∙ l);
       count = counted counts;
       fits = few counts;
+      refused-at = within counts;
     }
   where
     counted : {count : ℕ} {outcome : Outcome} → Counts (sheet .head .steps) 1 count outcome → count ≡ rowsWritten sheet outcome
@@ -90,6 +127,10 @@ rows-of-run sheet =
     few : {count : ℕ} {outcome : Outcome} → Counts (sheet .head .steps) 1 count outcome → count ≤ sheet .head .steps
     few (all e) = omega arith
     few (stopped _ _ e l) = omega arith
+
+    within : {count : ℕ} {outcome : Outcome} → Counts (sheet .head .steps) 1 count outcome → refusedStep outcome ≤ sheet .head .steps
+    within (all e) = unfold refusedStep in omega arith
+    within (stopped _ _ e l) = unfold refusedStep in omega arith
 
 -- ---- the questions before step 1
 
@@ -128,4 +169,4 @@ pub rows-of-passage : (sheet : Sheet) (places : ℕ) → Rows sheet (passage she
 rows-of-passage sheet places = passage-either sheet places (Rows sheet) no-rows (λ e room. rows-of-run sheet)
   where
     no-rows : (r : Refusal) → Rows sheet (refused r 0)
-    no-rows r = unfold refused rowsWritten in record { wide = none; count = refl; fits = omega arith }
+    no-rows r = unfold refused rowsWritten refusedStep in record { wide = none; count = refl; fits = omega arith; refused-at = omega arith }

@@ -5,27 +5,22 @@ use mathlib.Core.Path.{_≡_}
 use mathlib.Core.List.{List}
 use native.Mathlib.Nat.{le-trans, zero-mul, mul-le-mul-right}
 use native.Mathlib.Omega.{arith}
-use lib.IntN.{natAbs}
+use lib.IntN.{ℤ, natAbs}
 use lib.ListN.{length, getD}
-use Rattle.model.specs.Sheet.{most, most-steps, passes, sheetVerdict, termsOf}
-use Rattle.model.specs.Step.{Ball, no-ball, greatest, most-degree, Row}
+use Rattle.model.specs.Sheet.{most, most-steps, refusedStep, passes, sheetVerdict, termsOf}
+use Rattle.model.specs.Step.{Ball, no-ball, reach, greatest, Row}
 use Rattle.model.specs.Passage.{moves, advance, refused, placesNeeded, passage}
-use Rattle.model.specs.Rows.{width}
-use Rattle.model.specs.Bounds.{InBounds}
+use Rattle.model.specs.Rows.{width, written}
+use Rattle.model.specs.Bounds.{InBounds, Printable, RowsPrintable}
 use Rattle.model.specs.declared.Sheet.{Sheet}
 use Rattle.model.proofs.Halving.{row-sharp}
 use Rattle.model.proofs.Invariant.{greatest-le-most}
-use Rattle.model.proofs.Passages.{run-each, rows-of-run, passage-either}
-use Rattle.model.proofs.Rows.{Each, none}
+use Rattle.model.proofs.Passages.{AllButLast, empty, run-each, run-earlier, rows-of-run, rows-of-passage, passage-either}
+use Rattle.model.proofs.Rows.{Each, none, each-at, row-written}
 use Rattle.model.proofs.SheetBounds.{bounds-of-sheet, bounds-of-step, counts-of-sheet}
 use Rattle.model.proofs.Taken.{all-tolerated, Taken, step-taken, quantities-stay, degree-at-most}
 
-pub record InRange (row : Row) : Type 0 where
-  pub degree : row .degree ≤ most-degree
-  pub values : (i : ℕ) → i < length (row .balls) → natAbs (getD (row .balls) i no-ball .value) ≤ 3 * most
-  pub radii : (i : ℕ) → i < length (row .balls) → getD (row .balls) i no-ball .radius ≤ most
-
-row-in-range : (sheet : Sheet) → sheetVerdict sheet ≡ passes → (balls : List Ball) (row : Row) → length balls ≡ sheet .head .n → advance (termsOf sheet) (sheet .head .step) (sheet .head .tail) (sheet .head .tol) balls ≡ moves row → InRange row
+row-in-range : (sheet : Sheet) → sheetVerdict sheet ≡ passes → (balls : List Ball) (row : Row) → length balls ≡ sheet .head .n → advance (termsOf sheet) (sheet .head .step) (sheet .head .tail) (sheet .head .tol) balls ≡ moves row → Printable row
 row-in-range sheet passed balls row l e =
     record { degree = degree-at-most _ _ _ _ balls e; values = λ i h. omega (arith, value-at i h, radius-at i h, greatest-le-most bounds); radii = radius-at }
   where
@@ -42,12 +37,41 @@ row-in-range sheet passed balls row l e =
     value-at i h =
         rw (taken .is-row) (row-sharp (termsOf sheet) (record { absent = bounds .sheet .formed }) (sheet .head .step) balls (taken .is-slow) i (sheet .head .tail) (rw (quantities-stay _ _ _ _ balls e) at h))
 
-pub passage-in-range : (sheet : Sheet) (places : ℕ) → Each InRange (passage sheet places .rows)
+pub passage-in-range : (sheet : Sheet) (places : ℕ) → Each Printable (passage sheet places .rows)
 unfolding refused
 passage-in-range sheet places =
-    passage-either sheet places (λ run. Each InRange (run .rows)) (λ r. none) (λ e room. run-each sheet InRange (row-in-range sheet e))
+    passage-either sheet places (λ run. Each Printable (run .rows)) (λ r. none) (λ e room. run-each sheet Printable (row-in-range sheet e))
 
--- no more rows than the most steps ..
+-- and question 4 has let every row pass that another one follows
+abbrev pub Passed : List Ball → Type 0
+Passed balls = (i : ℕ) → i < length balls → natAbs (getD balls i no-ball .value) ≤ most
+
+passed-before : (sheet : Sheet) → sheetVerdict sheet ≡ passes → (balls : List Ball) (row : Row) → length balls ≡ sheet .head .n → advance (termsOf sheet) (sheet .head .step) (sheet .head .tail) (sheet .head .tol) balls ≡ moves row → Passed balls
+unfolding reach
+passed-before sheet passed balls row l e i h = omega (arith, bounds .small i h)
+  where
+    bounds : InBounds (termsOf sheet) (sheet .head .step) balls
+    bounds =
+        let taken = step-taken _ _ _ _ balls e in
+        bounds-of-step balls (rw l (bounds-of-sheet sheet passed)) (taken .is-small) (taken .is-slow)
+
+pub passage-earlier : (sheet : Sheet) (places : ℕ) → AllButLast (λ row. Passed (row .balls)) (passage sheet places .rows)
+unfolding refused
+passage-earlier sheet places =
+    passage-either sheet places (λ run. AllButLast (λ row. Passed (row .balls)) (run .rows)) (λ r. empty) (λ e room. run-earlier sheet Passed (passed-before sheet e))
+
+-- the same of its rows as they stand in the lent buffer
+pub written-in-range : (sheet : Sheet) (lent : ℕ) (before : List ℤ) → let rows = passage sheet lent .rows in RowsPrintable (sheet .head .n) (length rows) (written rows before)
+written-in-range sheet lent before j h =
+    rw (row-written (rows-of-passage sheet lent .wide) before j h) (each-at (passage-in-range sheet lent) j h)
+
+-- refused at the last of the most steps, or before ..
+pub passage-step : (sheet : Sheet) (lent : ℕ) → refusedStep (passage sheet lent .outcome) ≤ most-steps
+unfolding refused refusedStep
+passage-step sheet lent =
+    passage-either sheet lent (λ run. refusedStep (run .outcome) ≤ most-steps) (λ r. omega arith) (λ e room. le-trans (rows-of-run sheet .refused-at) (counts-of-sheet sheet e .steps-high))
+
+-- .. no more rows than the most steps ..
 pub passage-few : (sheet : Sheet) (places : ℕ) → length (passage sheet places .rows) ≤ most-steps
 unfolding refused
 passage-few sheet places =

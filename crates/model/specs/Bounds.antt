@@ -1,5 +1,6 @@
 -- What the functions of one step ask of the terms, the step and the balls that they are handed, so that no working number leaves 64 bits. A sheet
--- that passes question 3 has it, and questions 4 and 5 give the rest (proofs/SheetBounds.antt).
+-- that passes question 3 has it, and questions 4 and 5 give the rest (proofs/SheetBounds.antt). Then what the functions that
+-- print ask of rows.
 use Prim.Native.Nat.{ℕ, _*_, _≤_, _<_}
 use mathlib.Core.List.{List}
 use mathlib.Core.Path.{_≡_}
@@ -7,7 +8,8 @@ use lib.IntN.{ℤ, natAbs}
 use lib.ListN.{length, getD}
 use Rattle.model.specs.Range.{sum}
 use Rattle.model.specs.Sheet.{scale, most, most-terms, most-coef, no-term}
-use Rattle.model.specs.Step.{Ball, no-ball, reach, greatest, ratio}
+use Rattle.model.specs.Step.{Ball, no-ball, reach, greatest, ratio, most-degree, Row}
+use Rattle.model.specs.Rows.{rowIn}
 use Rattle.model.specs.Passage.{most-ratio}
 use Rattle.model.specs.declared.Term.{Term}
 
@@ -35,3 +37,17 @@ pub record InBounds (terms : List Term) (H : ℤ) (balls : List Ball) : Type 0 w
   pub sheet : TermsInBounds terms H (length balls)
   pub small : (i : ℕ) → i < length balls → reach (getD balls i no-ball) ≤ most
   pub slow : ratio terms H (length balls) (greatest balls) ≤ most-ratio
+
+-- the most that a value of a row is, without its sign: 1,610,612,736
+abbrev pub most-value : ℕ
+most-value = 3 * most
+
+-- What the functions that print ask of a row, so that no number has more than ten digits. Every row of a passage has it (proofs/RowRange.antt).
+pub record Printable (row : Row) : Type 0 where
+  pub degree : row .degree ≤ most-degree
+  pub values : (i : ℕ) → i < length (row .balls) → natAbs (getD (row .balls) i no-ball .value) ≤ most-value
+  pub radii : (i : ℕ) → i < length (row .balls) → getD (row .balls) i no-ball .radius ≤ most
+
+-- The same of so many rows of n quantities, as they stand in a buffer.
+abbrev pub RowsPrintable : ℕ → ℕ → List ℤ → Type 0
+RowsPrintable n count rows = (j : ℕ) → j < count → Printable (rowIn n rows j)

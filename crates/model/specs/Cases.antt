@@ -1,5 +1,6 @@
 -- Document 01's soundings A to J, A and D with the step back, the range of each field, the order of question 3 and what else no sounding fixes, as
--- one table. proofs/Cases.antt has the one theorem, that all of them hold.
+-- one table; then numbers as they are printed and as they are spelled, a table each. proofs/Cases.antt has a theorem for each table, that all of it
+-- holds.
 use Prim.Native.Nat.{ℕ}
 use Prim.Native.Char.{code}
 use Prim.Native.String.{String, _++_ as _&_}
@@ -11,11 +12,11 @@ use lib.ListN.{length, take, drop, replicate}
 use Rattle.rounding.specs.Rounding.{near, up}
 use Rattle.model.specs.Range.{bytes}
 use Rattle.model.specs.Sheet.{most-steps, result, Gives, within, n-limits, steps-limits, stepWithin, tail-limits, tol-limits, start-limits, radius-limits, terms-limits, to-limits, coef-limits, first-limits, second-limits, quantitiesHeld, termsHeld}
-use Rattle.model.specs.Reading.{readSheetTo, readSheet}
+use Rattle.model.specs.Reading.{Spelled, spelled, wrong, natural, signed, readSheetTo, readSheet}
 use Rattle.model.specs.Step.{Row}
 use Rattle.model.specs.Passage.{passage}
 use Rattle.model.specs.Rows.{written}
-use Rattle.model.specs.Answer.{runOf, answer}
+use Rattle.model.specs.Answer.{decimal, runOf, answer}
 use Rattle.model.specs.declared.Outcome.the-variants.{Accepted}
 use Rattle.model.specs.declared.Start.the-variants.{Reading, Missing}
 use Rattle.model.specs.declared.Quantity.{Quantity}
@@ -146,6 +147,8 @@ cases =
     ∷ ends (sheetText "1" "4194304" "349526" "1" "536870912" "1" none) 6 1
     -- H
     ∷ opensAt (sheetText "1" "8388608" "2" "536870912" "536870912" "0" (one "1" "0")) 28
+    -- a value of ten digits and a minus
+    ∷ prints (sheetText "1" "-262144" "2" "536870912" "-536870912" "0" square) "row=1\ndegree=28\nvalue=-1073741822\nradius=73\nresult=0\nat=0\n"
     -- I
     ∷ nearIs (pos 3) 2 (pos 2)
     ∷ nearIs (negsuc 2) 2 (negsuc 1)
@@ -226,4 +229,121 @@ cases =
     ∷ judged (given 1 (pos 1) 1 (missing 0 ∷ []) 1) 4
     ∷ judged (given 1 (pos 1) 1 (reading 0 0 ∷ []) 1) 3
     ∷ judged (given 1 (pos 1) 1 (reading 0 0 ∷ []) 0) 5
+    ∷ []
+
+-- ---- numbers, as they are printed
+
+-- each prints so
+unfoldable pub AllPrinted : List (ℤ × String) → Type 0
+AllPrinted numbers = map (λ case. decimal (case .0)) numbers ≡ map (λ case. bytes (case .1)) numbers
+
+-- the ends of each number of digits, and the largest value of a row, either way
+unfoldable pub numbers : List (ℤ × String)
+numbers =
+    (pos 0, "0")
+    ∷ (pos 9, "9")
+    ∷ (pos 10, "10")
+    ∷ (pos 99, "99")
+    ∷ (pos 100, "100")
+    ∷ (pos 999, "999")
+    ∷ (pos 1000, "1000")
+    ∷ (pos 9999, "9999")
+    ∷ (pos 10000, "10000")
+    ∷ (pos 99999, "99999")
+    ∷ (pos 100000, "100000")
+    ∷ (pos 999999, "999999")
+    ∷ (pos 1000000, "1000000")
+    ∷ (pos 9999999, "9999999")
+    ∷ (pos 10000000, "10000000")
+    ∷ (pos 99999999, "99999999")
+    ∷ (pos 100000000, "100000000")
+    ∷ (pos 999999999, "999999999")
+    ∷ (pos 1000000000, "1000000000")
+    ∷ (pos 1610612736, "1610612736")
+    ∷ (negℤ (pos 1), "-1")
+    ∷ (negℤ (pos 9), "-9")
+    ∷ (negℤ (pos 10), "-10")
+    ∷ (negℤ (pos 1610612736), "-1610612736")
+    ∷ []
+
+-- ---- numbers, as they are spelled
+
+-- a text, and what its front spells where a number has no minus, and where it may have one
+pub record Spelling : Type 0 where
+  pub text : String
+  pub unsigned : Spelled
+  pub signed : Spelled
+
+-- what the front of a text does spell
+unfoldable pub spellingOf : String → Spelling
+spellingOf text = record { text = text; unsigned = natural (bytes text); signed = signed (bytes text) }
+
+-- each is what its text spells
+unfoldable pub AllSpelled : List Spelling → Type 0
+AllSpelled spellings = map (λ case. spellingOf (case .text)) spellings ≡ spellings
+
+-- a number without a minus, and the text left
+unfoldable pub plain : String → ℕ → String → Spelling
+plain text n left = record { text = text; unsigned = spelled (pos n) (bytes left); signed = spelled (pos n) (bytes left) }
+
+-- one with a minus
+unfoldable pub minus : String → ℕ → String → Spelling
+minus text n left = record { text = text; unsigned = wrong; signed = spelled (negℤ (pos n)) (bytes left) }
+
+-- no number
+unfoldable pub neither : String → Spelling
+neither text = record { text = text; unsigned = wrong; signed = wrong }
+
+-- the numbers of nine digits and fewer, and what is none
+unfoldable pub spellings : List Spelling
+spellings =
+    -- the ends of each number of digits, before a line feed
+    plain "0\n" 0 "\n"
+    ∷ plain "9\n" 9 "\n"
+    ∷ plain "10\n" 10 "\n"
+    ∷ plain "99\n" 99 "\n"
+    ∷ plain "100\n" 100 "\n"
+    ∷ plain "999\n" 999 "\n"
+    ∷ plain "1000\n" 1000 "\n"
+    ∷ plain "9999\n" 9999 "\n"
+    ∷ plain "10000\n" 10000 "\n"
+    ∷ plain "99999\n" 99999 "\n"
+    ∷ plain "100000\n" 100000 "\n"
+    ∷ plain "999999\n" 999999 "\n"
+    ∷ plain "1000000\n" 1000000 "\n"
+    ∷ plain "9999999\n" 9999999 "\n"
+    ∷ plain "10000000\n" 10000000 "\n"
+    ∷ plain "99999999\n" 99999999 "\n"
+    ∷ plain "100000000\n" 100000000 "\n"
+    ∷ plain "999999999\n" 999999999 "\n"
+    -- a tenth digit is left
+    ∷ plain "1000000000\n" 100000000 "0\n"
+    ∷ plain "9999999999\n" 999999999 "9\n"
+    -- behind a zero at the front all is left
+    ∷ plain "00\n" 0 "0\n"
+    ∷ plain "01\n" 0 "1\n"
+    -- the end of the text, and the bytes next to the digits, end a number
+    ∷ plain "7" 7 ""
+    ∷ plain "123456789" 123456789 ""
+    ∷ plain "7/\n" 7 "/\n"
+    ∷ plain "7:\n" 7 ":\n"
+    ∷ plain "7-\n" 7 "-\n"
+    -- a minus, never before 0
+    ∷ minus "-1\n" 1 "\n"
+    ∷ minus "-9\n" 9 "\n"
+    ∷ minus "-10\n" 10 "\n"
+    ∷ minus "-999999999\n" 999999999 "\n"
+    ∷ minus "-1000000000\n" 100000000 "0\n"
+    ∷ neither "-0\n"
+    ∷ neither "-01\n"
+    ∷ neither "-\n"
+    ∷ neither "-"
+    ∷ neither "--1\n"
+    -- no digit at the front
+    ∷ neither ""
+    ∷ neither "\n"
+    ∷ neither "/\n"
+    ∷ neither ":\n"
+    ∷ neither "+1\n"
+    ∷ neither " 1\n"
     ∷ []
