@@ -6,6 +6,7 @@ ghost use Rattle.model.specs.Sheet.{«most-digits»};
 ghost use Rattle.model.specs.Reading as model;
 ghost use Rattle.lines.specs.Places.{rest, byteRead, empty, digitRead, frontDigit, spelledAt, foundAfter, spelling, lineAfter};
 use model::MOST_DIGITS;
+use tens::power_of_ten;
 
 // A place in a text: how many bytes stand before it.
 pub struct Cursor {
@@ -92,7 +93,7 @@ impl Cursor {
             let Digit::Value(d, next) = cursor.digit(text) else {
                 return Spelled::Number(value as i64, cursor);
             };
-            value = value * 10 + d;
+            value = value * power_of_ten(1) as u64 + d;
             cursor = next;
             read += 1;
         }

@@ -31,8 +31,12 @@ abbrev μ-loop : tie.MeasureT-loop
 small : {value read : ℕ} → read ≤ most-digits → value < 10 ^ read → value < 1000000000
 small h below = omega (arith, pow-le-pow-right {n = 10} (omega arith) h)
 
-one-digit-more : {value d : ℕ} (read : ℕ) → value < 10 ^ read → d < 10 → value * 10 + d < 10 ^ (read + 1)
-one-digit-more read h small = rw (add-one read, pow-suc) (omega arith)
+module _ {ten : ℕ} (is-ten : ten ≡ 10) where
+  one-digit-more : {value d : ℕ} (read : ℕ) → value < 10 ^ read → d < 10 → value * ten + d < 10 ^ (read + 1)
+  one-digit-more read h small = rw (is-ten, add-one read, pow-suc) (omega arith)
+
+  tenfold-fits : {value d : ℕ} → value < 1000000000 → d < 10 → value * ten + d < 2 ^ 64
+  tenfold-fits h small = rw is-ten (omega arith)
 
 one-less : {read : ℕ} → read < most-digits → most-digits - read ≡ suc (most-digits - (read + 1))
 one-less h = omega arith
@@ -44,8 +48,8 @@ module _ {read : ℕ} (value : ℕ) (l : List ℕ) where
   stopped : read < most-digits → frontDigit l ≡ other → digits (most-digits - read) value l ≡ spelled (pos value) l
   stopped h e = ap (λ (more : ℕ). digits more value l) (one-less h) ∙ digits-stop (most-digits - (read + 1)) value l e
 
-  one-more : {d : ℕ} {m : List ℕ} → read < most-digits → frontDigit l ≡ digit d m → digits (most-digits - read) value l ≡ digits (most-digits - (read + 1)) (value * 10 + d) m
-  one-more h e = ap (λ (more : ℕ). digits more value l) (one-less h) ∙ digits-go (most-digits - (read + 1)) value l e
+  one-more : {ten d : ℕ} {m : List ℕ} → ten ≡ 10 → read < most-digits → frontDigit l ≡ digit d m → digits (most-digits - read) value l ≡ digits (most-digits - (read + 1)) (value * ten + d) m
+  one-more is-ten h e = rw is-ten (ap (λ (more : ℕ). digits more value l) (one-less h) ∙ digits-go (most-digits - (read + 1)) value l e)
 
   none-left : read ≤ most-digits → most-digits ≤ read → digits (most-digits - read) value l ≡ spelled (pos value) l
   unfolding digits
@@ -71,10 +75,11 @@ digit-small c = front-digit-small _ (digit-first c)
 
 loop-again : tie.Need-loop-again Inv-loop μ-loop
 loop-again c =
-    let at-loop = c .before .before .before .before .before in (
+    let at-loop = c .before .before .before .before .before .before in
+    let is-ten = c .power-of-ten .ensures in (
       omega arith,
-      one-digit-more (at-loop .loop .read) (at-loop .loop .inv .1) (digit-small (c .before)),
-      sym (one-more (at-loop .loop .value) _ (c .before .before .before .before .loop-test .taken) (digit-first (c .before))) ∙ at-loop .loop .inv .2,
+      one-digit-more is-ten (at-loop .loop .read) (at-loop .loop .inv .1) (digit-small (c .before .before)),
+      sym (one-more (at-loop .loop .value) _ is-ten (c .before .before .before .before .before .loop-test .taken) (digit-first (c .before .before))) ∙ at-loop .loop .inv .2,
     )
 
 returns-2 : tie.Need-returns-2 Inv-loop μ-loop
@@ -96,11 +101,22 @@ enum-told c = search needs
 cast-t11 : tie.Need-cast-t11 Inv-loop μ-loop
 cast-t11 c = let at-loop = c .before .before .before .before in record { sfits = omega (arith, small (at-loop .loop .inv .0) (at-loop .loop .inv .1)) }
 
+power-of-ten-requires : tie.Need-power-of-ten-requires Inv-loop μ-loop
+power-of-ten-requires c κs = omega arith
+
+cast-value : tie.Need-cast-value Inv-loop μ-loop
+cast-value c = omega (arith, c .power-of-ten .ensures)
+
+next-fits : (c : tie.After-power-of-ten Inv-loop μ-loop) → c .before .before .before .before .before .before .loop .value * c .power-of-ten .result + c .before .before .d .given .0 .0 < 2 ^ 64
+next-fits c =
+    let inv = c .before .before .before .before .before .before .loop .inv in
+    tenfold-fits (c .power-of-ten .ensures) (small (inv .0) (inv .1)) (digit-small (c .before .before))
+
 mul-value : tie.Need-mul-value Inv-loop μ-loop
-mul-value c = let at-loop = c .before .before .before .before .before in omega (arith, small (at-loop .loop .inv .0) (at-loop .loop .inv .1))
+mul-value c = omega (arith, next-fits c)
 
 add-value : tie.Need-add-value Inv-loop μ-loop
-add-value c = let at-loop = c .before .before .before .before .before in omega (arith, small (at-loop .loop .inv .0) (at-loop .loop .inv .1), digit-small (c .before))
+add-value c = omega (arith, next-fits c)
 
 add-read : tie.Need-add-read Inv-loop μ-loop
 add-read c = omega arith
@@ -108,8 +124,8 @@ add-read c = omega arith
 loop-less : tie.Need-loop-less Inv-loop μ-loop
 loop-less c = omega arith
 
-cast-t13 : tie.Need-cast-t13 Inv-loop μ-loop
-cast-t13 c = record { sfits = omega (arith, small (c .before .loop .inv .0) (c .before .loop .inv .1)) }
+cast-t15 : tie.Need-cast-t15 Inv-loop μ-loop
+cast-t15 c = record { sfits = omega (arith, small (c .before .loop .inv .0) (c .before .loop .inv .1)) }
 
 pub digits-spec : {M : Type 1} → statement M
 digits-spec =
@@ -123,10 +139,12 @@ digits-spec =
     enum-told
     cast-t11
     returns
+    power-of-ten-requires
+    cast-value
     mul-value
     add-value
     add-read
     loop-less
     loop-again
-    cast-t13
+    cast-t15
     returns-2)
