@@ -25,7 +25,7 @@ extern "C" {
  */
 #define PLANNER_SHEET_LENGTH 4097
 #define PLANNER_ROWS_LENGTH 6800
-#define PLANNER_TEXT_LENGTH 204454
+#define PLANNER_TEXT_LENGTH 116025
 
 /* The most quantities and the most steps that a sheet may have; how many units make 1. */
 #define PLANNER_MOST_QUANTITIES 8

@@ -4,15 +4,16 @@ use Prim.Native.Nat.{ℕ, _*_, _≤_, _<_}
 use mathlib.Core.List.{List}
 use mathlib.Core.Path.{_≡_, refl, sym, ap, _∙_}
 use native.Mathlib.Omega.{arith}
-use native.Mathlib.Nat.{le-trans, le-refl, mul-le-mul-right}
+use native.Mathlib.Nat.{le-trans, le-refl}
 use lib.IntN.{ℤ}
 use lib.ListN.{length, take}
 use lib.Seq.{take-all}
 use Rattle.model.specs.Answer.{answer, runText, runOf}
 use Rattle.model.specs.Rows.{width, places, written, rowsIn}
+use Rattle.model.specs.Bounds.{RowsPrintable}
 use Rattle.model.specs.Passage.{Run, passage, run, refused, placesNeeded, rowsWritten}
 use Rattle.model.specs.Reading.{readSheet}
-use Rattle.model.specs.Sheet.{most-bytes, most-quantities, most-steps, n-limits, headVerdict, no-head, sheetVerdictTo, sheetVerdict, refuses, no-sheet, inRange, ask, within, from_to_, _then_}
+use Rattle.model.specs.Sheet.{most-bytes, most-quantities, most-steps, refusedStep, n-limits, headVerdict, no-head, sheetVerdictTo, sheetVerdict, refuses, no-sheet, inRange, ask, within, from_to_, _then_}
 use Rattle.model.specs.Trust.{TrustedOf}
 use Rattle.model.specs.declared.Outcome.{Outcome}
 use Rattle.model.specs.declared.Outcome.the-variants.{Accepted, Refused}
@@ -22,25 +23,19 @@ use Rattle.model.specs.declared.ReadSheet.{ReadSheet}
 use Rattle.model.specs.declared.Sheet.{Sheet}
 use Rattle.model.proofs.Readings.{accepted-is-acceptable, refused-is-zeros, read-from-front}
 use Rattle.model.proofs.Rows.{Wide, rows-in-written, places-length, written-length, rows-fit}
-use Rattle.model.proofs.Passages.{rows-of-run, rows-of-passage, passage-refused, passage-runs, passage-either}
+use Rattle.model.proofs.Passages.{rows-of-passage, passage-refused, passage-runs}
+use Rattle.model.proofs.RowRange.{passage-in-range, passage-earlier, written-in-range, passage-step, passage-few, passage-fits}
 use Rattle.model.proofs.Trusted.{passage-trusted}
 use Rattle.model.proofs.SheetBounds.{Counts, counts-of-sheet}
 use Rattle.answer.specs.declared.Ended.{Ended}
 use Rattle.rows.specs.Room.{HasRows}
 use Rattle.decimal.specs.Pieces.{Printed}
+use Rattle.decimal.proofs.Pieces.{printed-whole}
+use Rattle.text.specs.Lengths.{most-answer}
+use Rattle.text.proofs.Lengths.{length-run}
 use Rattle.answer.specs.Answered.{runLent, endedOf, Ran, TrustedLent, TrustedText, FrontOf, AnswersAlike}
 
--- ---- places and counts
-
-no-rows-fit : (r : Refusal) (lent n : ℕ) → length (refused r 0 .rows) * width n ≤ lent
-unfolding refused
-no-rows-fit r lent n = omega arith
-
--- a passage has no more rows than there are places for
-passage-fits : (sheet : Sheet) (lent : ℕ) → length (passage sheet lent .rows) * width (sheet .head .n) ≤ lent
-unfolding placesNeeded
-passage-fits sheet lent =
-    passage-either sheet lent (λ run. length (run .rows) * width (sheet .head .n) ≤ lent) (λ r. no-rows-fit r lent (sheet .head .n)) (λ e room. le-trans (mul-le-mul-right (width (sheet .head .n)) (rows-of-run sheet .fits)) room)
+-- ---- the sheet that is read
 
 -- a sheet of zeros is out of range
 zeros-refused : sheetVerdict no-sheet ≡ refuses OutOfRange
@@ -50,6 +45,14 @@ zeros-refused = refl
 -- those of a sheet that was read
 counts-of-accepted : (sheet : List ℕ) → readSheet sheet .outcome ≡ Accepted → Counts (readSheet sheet .sheet)
 counts-of-accepted sheet e = counts-of-sheet (readSheet sheet .sheet) (accepted-is-acceptable most-steps sheet e .verdict)
+
+-- no more quantities than the most, and none where it was refused
+few-quantities : (sheet : List ℕ) → readSheet sheet .sheet .head .n ≤ most-quantities
+few-quantities sheet = go (readSheet sheet .outcome) refl
+  where
+    go : (outcome : Outcome) → readSheet sheet .outcome ≡ outcome → readSheet sheet .sheet .head .n ≤ most-quantities
+    go Accepted e = counts-of-accepted sheet e .n-high
+    go (Refused r step) e = unfold no-sheet no-head in rw (refused-is-zeros most-steps sheet e .zeros) (omega arith)
 
 -- ---- by what the sheet is read as
 
@@ -79,14 +82,22 @@ module _ (sheet : List ℕ) (lent : ℕ) where
   fit : length (runLent sheet lent .rows) * width (readSheet sheet .sheet .head .n) ≤ lent
   fit = rw rows-are (passage-fits (readSheet sheet .sheet) lent)
 
-  few : (readSheet sheet .sheet .head .n ≤ most-quantities) × (length (runLent sheet lent .rows) ≤ most-steps)
-  few = go (readSheet sheet .outcome) refl
+  few : length (runLent sheet lent .rows) ≤ most-steps
+  few = rw rows-are (passage-few (readSheet sheet .sheet) lent)
+
+  -- no step past the most is refused; a text that is refused in reading is so before step 1
+  early : refusedStep (runLent sheet lent .outcome) ≤ most-steps
+  early = go (readSheet sheet .outcome) refl
     where
-      go : (outcome : Outcome) → readSheet sheet .outcome ≡ outcome → (readSheet sheet .sheet .head .n ≤ most-quantities) × (length (runLent sheet lent .rows) ≤ most-steps)
-      go Accepted e =
-          let counts = counts-of-accepted sheet e in
-          (counts .n-high, rw rows-are (le-trans (rows-of-passage (readSheet sheet .sheet) lent .fits) (counts .steps-high)))
-      go (Refused r step) e = unfold refused no-sheet no-head in rw (lent-refused e, refused-is-zeros most-steps sheet e .zeros) (omega arith, omega arith)
+      go : (outcome : Outcome) → readSheet sheet .outcome ≡ outcome → refusedStep (runLent sheet lent .outcome) ≤ most-steps
+      go Accepted e = rw (lent-accepted e) (passage-step (readSheet sheet .sheet) lent)
+      go (Refused r step) e = unfold refused refusedStep in rw (lent-refused e, refused-is-zeros most-steps sheet e .before-steps) (omega arith)
+
+  -- the text has no more bytes than the longest answer
+  short : length (runText (runLent sheet lent)) ≤ most-answer
+  short =
+      let read = readSheet sheet .sheet in
+      length-run (read .head .n) (runLent sheet lent) (few-quantities sheet) few wide (rw rows-are (passage-in-range read lent)) (rw rows-are (passage-earlier read lent)) early
 
 -- read back from the buffer, they are the same
 read-back : (sheet : List ℕ) (before : List ℤ) → let rows = runLent sheet (length before) .rows in rowsIn (readSheet sheet .sheet .head .n) (length rows) (written rows before) ≡ rows
@@ -120,13 +131,24 @@ module _ (sheet : List ℕ) {before after : List ℤ} {ended : Ended} (ran : Ran
 
   pub ran-bounds : HasRows (ended .n) (ended .count) after × (ended .count ≤ most-steps)
   unfolding endedOf
-  ran-bounds = rw (ran .answer, ran .buffer) (record { few = few sheet lent .0; room = rw same-length (fit sheet lent) }, few sheet lent .1)
+  ran-bounds = rw (ran .answer, ran .buffer) (record { few = few-quantities sheet; room = rw same-length (fit sheet lent) }, few sheet lent)
     where
       lent : ℕ
       lent = length before
 
       same-length : length (written (runLent sheet lent .rows) before) ≡ lent
       same-length = written-length (runLent sheet lent .rows) before (rw (places-length (wide sheet lent)) (fit sheet lent))
+
+  pub ran-in-range : RowsPrintable (ended .n) (ended .count) after
+  unfolding endedOf
+  ran-in-range = rw (ran .answer, ran .buffer, rows-are sheet (length before)) (written-in-range (readSheet sheet .sheet) (length before) before)
+
+  pub ran-step : refusedStep (ended .outcome) ≤ most-steps
+  unfolding endedOf
+  ran-step = rw (ran .answer) (early sheet (length before))
+
+  pub ran-short : {before-text after-text : List ℕ} {count : ℕ} → Printed before-text (runText (runLent sheet (length before))) count after-text → count ≤ most-answer
+  ran-short p = omega (arith, p .counted, short sheet (length before))
 
   pub ran-trusted : TrustedLent sheet (length before) after
   unfolding TrustedLent TrustedOf
@@ -185,3 +207,13 @@ answer-by-reading e =
 pub alike-by-front : (room : ℕ) (input bytes : List ℕ) → most-bytes < room → FrontOf room input bytes → AnswersAlike input bytes
 unfolding FrontOf
 alike-by-front room input bytes enough e = answer-by-reading (sym (read-from-front most-steps room input enough) ∙ sym (ap readSheet e))
+
+-- ---- what the promises say
+
+-- a text that fits and is trusted is that of rows of which demand 3 holds
+pub trusted-stands : {sheet before after : List ℕ} {count : ℕ} (t : TrustedText sheet before count after) → length (runText (t .run)) ≤ length before → (take count after ≡ runText (t .run)) × TrustedOf (readSheet sheet .sheet) (t .run .rows)
+trusted-stands t h = (printed-whole (t .printed) h, t .trusted)
+
+-- two inputs that are answered alike have one answer
+pub alike-answers : {one other : List ℕ} → AnswersAlike one other → answer one ≡ answer other
+alike-answers a = a .text

@@ -97,9 +97,10 @@ pub extern "C" fn planner_run(sheet: &[u8], rows: &mut [i64], summary: &mut [u64
     put_summary(summary, ended);
 }
 
-// Reads a sheet and prints its answer into `text`, by way of rows of its own, which suffice for every sheet. Gives the
-// length of the whole answer, of which `text` holds as much as fits.
+// Reads a sheet and prints its answer into `text`, by way of rows of its own, which suffice for every sheet. The text has
+// room for the longest answer, and no more. Gives the length of the answer.
 fn answer_sheet(sheet: &[u8], text: &mut [u8]) -> usize
+    requires { ⌜ length (now text) ≡ most-answer ⌝ }
     ensures printed { λ r. ⌜ Printed (now (text .entry)) (answer (now (sheet .entry))) r (now (text .exit)) ⌝ }
     ensures bounded { λ r. ⌜ r ≤ most-answer ⌝ }
     ensures trusted { λ r. ⌜ TrustedText (now (sheet .entry)) (now (text .entry)) r (now (text .exit)) ⌝ }

@@ -1,11 +1,11 @@
--- A whole number in decimal: its sign, its last two digits, and how long it is. Assumes nothing.
+-- A whole number in decimal: its sign, its last two digits, and how many there are. Assumes nothing.
 use Prim.Native.Char.{code}
 use Prim.Native.Nat.{ℕ, zero, suc, _^_, _/_, _%_, _≤_, _<_}
-use mathlib.Core.Path.{_≡_, refl, ap}
+use mathlib.Core.Path.{_≡_, refl}
 use mathlib.Core.Bool.{true, false}
-use mathlib.Core.List.{_∷_, _++_, append-assoc}
+use mathlib.Core.List.{[], _∷_, _++_, append-assoc}
 use mathlib.Core.Logic.{⊎-elim}
-use native.Mathlib.Nat.{pow-suc}
+use native.Mathlib.Nat.{le-trans, pow-suc, pow-le-pow-right}
 use native.Mathlib.Omega.{arith}
 use lib.IntN.{ℤ, pos, negsuc, natAbs}
 use lib.ListN.{length, length-append}
@@ -13,19 +13,23 @@ use lib.Signed.{ltZ}
 use borrow.Author.Tests.{ltb-true}
 use Rattle.rounding.proofs.Machine.{not-negative}
 use Rattle.model.specs.Answer.{decimal}
-use Rattle.decimal.specs.Pieces.{pair}
+use Rattle.decimal.specs.Pieces.{pair, sign}
 use Rattle.model.proofs.Ranges.{before-or-past}
 use Rattle.model.proofs.Fuel.{decimal-digit, decimal-digits}
 
 -- ---- the sign
 
-pub decimal-negative : (z : ℤ) → ltZ z (pos 0) ≡ true → decimal z ≡ code "-" ∷ decimal (pos (natAbs z))
+pub decimal-signed : (z : ℤ) → decimal z ≡ sign z ++ decimal (pos (natAbs z))
 unfolding decimal
-decimal-negative (pos n) t = absurd (omega (arith, ltb-true n 0 t))
-decimal-negative (negsuc k) t = refl
+decimal-signed (pos n) = refl
+decimal-signed (negsuc n) = refl
 
-pub decimal-natural : (z : ℤ) → ltZ z (pos 0) ≡ false → decimal z ≡ decimal (pos (natAbs z))
-decimal-natural z t = ap decimal (not-negative z t)
+pub sign-minus : (z : ℤ) → ltZ z (pos 0) ≡ true → sign z ≡ code "-" ∷ []
+sign-minus (pos n) t = absurd (omega (arith, ltb-true n 0 t))
+sign-minus (negsuc n) t = refl
+
+pub sign-none : (z : ℤ) → ltZ z (pos 0) ≡ false → sign z ≡ []
+sign-none z t = rw (not-negative z t)
 
 -- ---- the last two digits
 
@@ -48,21 +52,39 @@ pub decimal-pairs : (n : ℕ) → 100 ≤ n → decimal (pos n) ≡ decimal (pos
 decimal-pairs n h =
     rw (decimal-digits n (omega arith), decimal-digits (n / 10) (omega arith), append-assoc, tenth-of-tenth n, tenth-of-rest n, last-of-rest n)
 
--- ---- the length
+-- ---- how many digits there are
 
 tenth-below : (k n : ℕ) → n < 10 ^ suc (suc k) → n / 10 < 10 ^ suc k
 tenth-below k n h = omega (arith, pow-suc 10 (suc k))
 
-length-natural : (k n : ℕ) → n < 10 ^ suc k → length (decimal (pos n)) ≤ suc k
-length-natural zero n h = rw (decimal-digit n h) (omega arith)
-length-natural (suc k) n h =
+tenth-from : (k n : ℕ) → 10 ^ suc k ≤ n → 10 ^ k ≤ n / 10
+tenth-from k n h = omega (arith, pow-suc 10 k)
+
+-- no more than k below 10^k ..
+pub length-below : (k n : ℕ) → 0 < k → n < 10 ^ k → length (decimal (pos n)) ≤ k
+length-below zero n l h = absurd (omega arith)
+length-below (suc zero) n l h = rw (decimal-digit n h) (omega arith)
+length-below (suc (suc k)) n l h =
     ⊎-elim
-    (λ l. rw (decimal-digit n l) (omega arith))
-    (λ l. rw (decimal-digits n l, length-append) (omega (arith, length-natural k (n / 10) (tenth-below k n h))))
+    (λ short. rw (decimal-digit n short) (omega arith))
+    (λ long. rw (decimal-digits n long, length-append) (omega (arith, length-below (suc k) (n / 10) (omega arith) (tenth-below k n h))))
     (before-or-past n 10)
 
--- 20 digits and a sign
-pub length-decimal : (z : ℤ) → natAbs z < 2 ^ 64 → length (decimal z) ≤ 21
-unfolding decimal
-length-decimal (pos n) h = omega (arith, length-natural 19 n (omega arith))
-length-decimal (negsuc n) h = omega (arith, length-natural 19 (suc n) (omega arith))
+-- .. one at least ..
+pub length-some : (n : ℕ) → 0 < length (decimal (pos n))
+length-some n =
+    ⊎-elim (λ short. rw (decimal-digit n short) (omega arith)) (λ long. rw (decimal-digits n long, length-append) (omega arith)) (before-or-past n 10)
+
+-- .. and more than k from 10^k on
+pub length-from : (k n : ℕ) → 10 ^ k ≤ n → k < length (decimal (pos n))
+length-from zero n h = length-some n
+length-from (suc k) n h =
+    rw (decimal-digits n (le-trans (pow-le-pow-right {n = 10} (omega arith) {i = 1} {j = suc k} (omega arith)) h), length-append) (omega (arith, length-from k (n / 10) (tenth-from k n h)))
+
+-- a sign, and no more than k digits
+pub length-signed : (k : ℕ) (z : ℤ) → 0 < k → natAbs z < 10 ^ k → length (decimal z) ≤ suc k
+length-signed k z l h = rw (decimal-signed z, length-append) (omega (arith, length-below k (natAbs z) l h, length-sign z))
+  where
+    length-sign : (z : ℤ) → length (sign z) ≤ 1
+    length-sign (pos n) = omega arith
+    length-sign (negsuc n) = omega arith

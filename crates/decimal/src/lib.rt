@@ -1,29 +1,31 @@
-// Whole numbers in decimal, put into a lent buffer line after line.
+// Whole numbers in decimal, put into a lent buffer line after line. Every power of ten is the table's (`tens`).
 //
-// Each function puts a text at a place and hands back the place that follows it. What lies past the buffer's end is
-// counted and not stored, as in C's snprintf, so the last place is the length of the whole text.
-ghost use Prim.Native.Nat.{_<_};
+// Each function `put_..` puts a text at a place and hands back the place that follows it. All but `put_front` ask that the
+// buffer has room for the text.
+ghost use Prim.Native.Nat.{_+_, _^_, _≤_, _<_};
 ghost use mathlib.Core.List.{[], _∷_};
 ghost use mathlib.Core.Path.{_≡_};
-ghost use lib.IntN.{pos};
+ghost use lib.IntN.{pos, natAbs};
+ghost use lib.ListN.{length};
+ghost use Rattle.tens.specs.Tens.{entries};
 ghost use Rattle.model.specs.Answer as answer;
-ghost use Rattle.decimal.specs.Pieces.{Put, Countable, pair, lineOf};
+ghost use Rattle.decimal.specs.Pieces.{Put, Room, pair, sign, lineOf};
 use rounding::magnitude;
+use tens::ENTRIES;
+use tens::power_of_ten;
 
-// One byte. A store past the end would change nothing, and is left out.
+// One byte.
 fn put_byte(text: &mut [u8], at: usize, byte: u8) -> usize
-    requires { ⌜ Countable at (byte ∷ []) ⌝ }
+    requires { ⌜ Room (now text) at (byte ∷ []) ⌝ }
     ensures { λ r. ⌜ Put (now (text .entry)) at (byte ∷ []) r (now (text .exit)) ⌝ }
 {
-    if at < text.len() {
-        text[at] = byte;
-    }
+    text[at] = byte;
     at + 1
 }
 
 // Bytes as they are.
 fn put_bytes(text: &mut [u8], at: usize, bytes: &[u8]) -> usize
-    requires { ⌜ Countable at (now bytes) ⌝ }
+    requires { ⌜ Room (now text) at (now bytes) ⌝ }
     ensures { λ r. ⌜ Put (now (text .entry)) at (now (bytes .entry)) r (now (text .exit)) ⌝ }
 {
     let mut next = at;
@@ -35,68 +37,98 @@ fn put_bytes(text: &mut [u8], at: usize, bytes: &[u8]) -> usize
     next
 }
 
+// Bytes as they are, as many as there is room for. What lies past the buffer's end is counted and not stored, as in C's
+// snprintf.
+pub fn put_front(text: &mut [u8], at: usize, bytes: &[u8]) -> usize
+    requires { ⌜ at + length (now bytes) < 2 ^ 64 ⌝ }
+    ensures { λ r. ⌜ Put (now (text .entry)) at (now (bytes .entry)) r (now (text .exit)) ⌝ }
+{
+    let end = at + bytes.len();
+    if end <= text.len() {
+        return put_bytes(text, at, bytes);
+    }
+    if at < text.len() {
+        let room = text.len() - at;
+        put_bytes(text, at, &bytes[..room]);
+    }
+    end
+}
+
 // The byte of a digit.
-fn digit(number: u64) -> u8
+fn digit(number: u32) -> u8
     requires { ⌜ number < 10 ⌝ }
     ensures { λ r. ⌜ r ≡ answer.digit number ⌝ }
 {
     b'0' + number as u8
 }
 
+// How many digits a number has: one, and one more for each power of ten from 10 up that it reaches.
+fn digit_count(number: u32) -> usize
+    ensures counted { λ r. ⌜ r ≡ length (answer.decimal (pos number)) ⌝ }
+    ensures few { λ r. ⌜ r ≤ entries ⌝ }
+{
+    let mut count = 1;
+    while count < ENTRIES && power_of_ten(count) <= number {
+        count += 1;
+    }
+    count
+}
+
 // The two digits of a number below 100, a leading 0 with them.
-fn put_pair(text: &mut [u8], at: usize, number: u64) -> usize
+fn put_pair(text: &mut [u8], at: usize, number: u32) -> usize
     requires { ⌜ number < 100 ⌝ }
-    requires { ⌜ Countable at (pair number) ⌝ }
+    requires { ⌜ Room (now text) at (pair number) ⌝ }
     ensures { λ r. ⌜ Put (now (text .entry)) at (pair number) r (now (text .exit)) ⌝ }
 {
-    let next = put_byte(text, at, digit(number / 10));
-    put_byte(text, next, digit(number % 10))
+    let ten = power_of_ten(1);
+    let next = put_byte(text, at, digit(number / ten));
+    put_byte(text, next, digit(number % ten))
 }
 
-// A natural number: the digits of its hundredth, and then its last two digits.
-fn put_natural(text: &mut [u8], at: usize, number: u64) -> usize
-    requires { ⌜ Countable at (answer.decimal (pos number)) ⌝ }
+// A natural number. The place of its last digit is known from their count; from there two digits at a time are put, to the
+// first, which is no 0 but that of 0 itself.
+fn put_natural(text: &mut [u8], at: usize, number: u32) -> usize
+    requires { ⌜ Room (now text) at (answer.decimal (pos number)) ⌝ }
     ensures { λ r. ⌜ Put (now (text .entry)) at (answer.decimal (pos number)) r (now (text .exit)) ⌝ }
 {
-    if number < 10 {
-        put_byte(text, at, digit(number))
-    } else if number < 100 {
-        put_pair(text, at, number)
-    } else {
-        let next = put_natural(text, at, number / 100);
-        put_pair(text, next, number % 100)
+    let hundred = power_of_ten(2);
+    let end = at + digit_count(number);
+    let mut next = end;
+    let mut left = number;
+    while hundred <= left {
+        next -= 2;
+        put_pair(text, next, left % hundred);
+        left = left / hundred;
     }
+    if power_of_ten(1) <= left {
+        put_pair(text, at, left);
+    } else {
+        put_byte(text, at, digit(left));
+    }
+    end
 }
 
-// A whole number: a minus where it is negative, and the digits of its magnitude.
-fn put_signed(text: &mut [u8], at: usize, number: i64) -> usize
-    requires { ⌜ Countable at (answer.decimal number) ⌝ }
-    ensures { λ r. ⌜ Put (now (text .entry)) at (answer.decimal number) r (now (text .exit)) ⌝ }
+// A minus, where the number is negative.
+fn put_sign(text: &mut [u8], at: usize, number: i64) -> usize
+    requires { ⌜ Room (now text) at (sign number) ⌝ }
+    ensures { λ r. ⌜ Put (now (text .entry)) at (sign number) r (now (text .exit)) ⌝ }
 {
     if number < 0 {
-        let first = put_byte(text, at, b'-');
-        put_natural(text, first, magnitude(number))
+        put_byte(text, at, b'-')
     } else {
-        put_natural(text, at, magnitude(number))
+        at
     }
 }
 
-// A line of a natural number. The key comes with its `=`.
-pub fn put_line(text: &mut [u8], at: usize, key: &[u8], number: u64) -> usize
-    requires { ⌜ Countable at (lineOf (now key) (pos number)) ⌝ }
-    ensures { λ r. ⌜ Put (now (text .entry)) at (lineOf (now (key .entry)) (pos number)) r (now (text .exit)) ⌝ }
-{
-    let first = put_bytes(text, at, key);
-    let end = put_natural(text, first, number);
-    put_byte(text, end, b'\n')
-}
-
-// A line of a whole number. The key comes with its `=`.
-pub fn put_whole(text: &mut [u8], at: usize, key: &[u8], number: i64) -> usize
-    requires { ⌜ Countable at (lineOf (now key) number) ⌝ }
+// The line of a number: the key, which comes with its `=`, a minus where the number is negative, its digits, a line feed.
+// Without its sign the number has 32 bits, and so ten digits at most.
+pub fn put_line(text: &mut [u8], at: usize, key: &[u8], number: i64) -> usize
+    requires { ⌜ natAbs number < 2 ^ 32 ⌝ }
+    requires { ⌜ Room (now text) at (lineOf (now key) number) ⌝ }
     ensures { λ r. ⌜ Put (now (text .entry)) at (lineOf (now (key .entry)) number) r (now (text .exit)) ⌝ }
 {
-    let sign = put_bytes(text, at, key);
-    let last = put_signed(text, sign, number);
-    put_byte(text, last, b'\n')
+    let keyed = put_bytes(text, at, key);
+    let signed = put_sign(text, keyed, number);
+    let end = put_natural(text, signed, magnitude(number) as u32);
+    put_byte(text, end, b'\n')
 }

@@ -1,2 +1,2 @@
 mod Lines
-mod Lengths
+pub mod Lengths

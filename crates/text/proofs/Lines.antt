@@ -14,13 +14,13 @@ use Rattle.model.specs.declared.Ball.{Ball}
 use Rattle.model.proofs.Ranges.{length-tabulate, tabulate-is}
 use Rattle.decimal.proofs.Pieces.{Grows}
 
-balls-append : (some more : List Ball) → ballsText (some ++ more) ≡ ballsText some ++ ballsText more
+pub balls-append : (some more : List Ball) → ballsText (some ++ more) ≡ ballsText some ++ ballsText more
 unfolding ballsText
 balls-append [] more = refl
 balls-append (ball ∷ some) more =
     rw (balls-append some more) (sym (append-assoc (printed "value" (ball .value) ++ printed "radius" (pos (ball .radius))) (ballsText some) (ballsText more)))
 
-rows-append : (number : ℕ) (some more : List Row) → rowsText number (some ++ more) ≡ rowsText number some ++ rowsText (number + length some) more
+pub rows-append : (number : ℕ) (some more : List Row) → rowsText number (some ++ more) ≡ rowsText number some ++ rowsText (number + length some) more
 unfolding rowsText
 rows-append number [] more = rw (add-zero number)
 rows-append number (row ∷ some) more =
@@ -30,10 +30,15 @@ rows-append number (row ∷ some) more =
 abbrev pub ballAt : ℕ → List ℤ → ℕ → ℕ → Ball
 ballAt n rows j i = getD (rowIn n rows j .balls) i no-ball
 
+pub length-row-balls : (n : ℕ) (rows : List ℤ) (j : ℕ) → length (rowIn n rows j .balls) ≡ n
+unfolding rowIn
+length-row-balls n rows j = length-tabulate n _
+
 -- the first n are all
 pub all-balls : (n : ℕ) (rows : List ℤ) (j : ℕ) → tabulate n (ballAt n rows j) ≡ rowIn n rows j .balls
 unfolding rowIn
-all-balls n rows j = tabulate-is n (ballAt n rows j) no-ball (rowIn n rows j .balls) (length-tabulate n _) (λ i h. refl)
+all-balls n rows j =
+    tabulate-is n (ballAt n rows j) no-ball (rowIn n rows j .balls) (length-row-balls n rows j) (λ i h. refl)
 
 -- a ball more
 pub balls-grow : (ball : ℕ → Ball) → Grows (λ i. ballsText (tabulate i ball)) (λ i. ballsText (ball i ∷ []))

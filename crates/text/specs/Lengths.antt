@@ -1,23 +1,31 @@
--- The most bytes of an answer, and of its parts, whatever numbers of 64 bits stand in it.
-use Prim.Native.Nat.{ℕ, _+_, _*_}
+-- A bound on the bytes of an answer, and of its parts: each line has no more digits than its number can have.
+use Prim.Native.Nat.{ℕ, _+_, _-_, _*_}
 use Rattle.model.specs.Sheet.{most-quantities, most-steps}
 
--- a line: 20 digits and a sign, beside the key, `=` and the line feed
-abbrev pub most-line : ℕ → ℕ
-most-line key = key + 23
+-- a line: a key of so many bytes, `=`, so many digits with their sign, and the line feed
+abbrev pub most-line : ℕ → ℕ → ℕ
+most-line key digits = key + digits + 2
 
--- a value and a radius
-abbrev pub most-ball : ℕ
-most-ball = most-line 5 + most-line 6
+-- the digits of a value that question 4 has let pass ..
+abbrev pub passed-digits : ℕ
+passed-digits = 9
 
--- a row's number, its degree and its n balls
-abbrev pub most-row : ℕ → ℕ
-most-row n = most-line 3 + most-line 6 + n * most-ball
+-- .. and of one that it has not been asked of, as in the last row
+abbrev pub value-digits : ℕ
+value-digits = 10
 
--- a result and the refused step
+-- a value of so many digits, with a sign, and a radius, of nine
+abbrev pub most-ball : ℕ → ℕ
+most-ball digits = most-line 5 (digits + 1) + most-line 6 9
+
+-- a row's number, of three digits, its degree, of two, and its n balls
+abbrev pub most-row : ℕ → ℕ → ℕ
+most-row digits n = most-line 3 3 + most-line 6 2 + n * most-ball digits
+
+-- a result, of two digits, and the refused step, of three
 abbrev pub most-outcome : ℕ
-most-outcome = most-line 6 + most-line 2
+most-outcome = most-line 6 2 + most-line 2 3
 
--- the most rows, of the most quantities, and the outcome
+-- the most rows, of the most quantities, and the outcome; question 4 has let every row pass but the last
 abbrev pub most-answer : ℕ
-most-answer = most-steps * most-row most-quantities + most-outcome
+most-answer = (most-steps - 1) * most-row passed-digits most-quantities + most-row value-digits most-quantities + most-outcome

@@ -1,17 +1,20 @@
 // Document 01, 'A sheet and its answer': the answer's text, put into a lent buffer from a buffer of rows.
 //
-// Each function puts its lines at a place and hands back the place that follows them, as those of `decimal` do. That the
-// numbers of a row are of 64 bits is known as they are read, so the place is bounded by the most bytes that these can take.
+// A row's lines are put into a buffer of their own, which has room for the longest, and from there as much of them as fits
+// into the text. Each function hands back the place that follows what it put, as those of `decimal` do.
 ghost use Prim.Native.Nat.{suc, _+_, _*_, _^_, _≤_, _<_};
 ghost use mathlib.Core.List.{[], _∷_};
-ghost use Rattle.model.specs.Sheet.{most-steps};
+ghost use lib.IntN.{natAbs};
+ghost use lib.ListN.{length};
+ghost use Rattle.model.specs.Sheet.{most, most-steps, refusedStep};
+ghost use Rattle.model.specs.Bounds.{most-value, Printable, RowsPrintable};
 ghost use Rattle.model.specs.Rows.{rowIn, rowsIn};
 ghost use Rattle.model.specs.Answer as answer;
 ghost use Rattle.rows.specs.Room.{HasRow, HasRows};
 ghost use Rattle.decimal.specs.Pieces.{Put, Printed};
-ghost use Rattle.text.specs.Lengths.{most-ball, most-row, most-outcome, most-answer};
+ghost use Rattle.text.specs.Lengths.{value-digits, most-ball, most-row};
+use decimal::put_front;
 use decimal::put_line;
-use decimal::put_whole;
 use model::MOST_QUANTITIES;
 use model::MOST_STEPS;
 use model::Outcome;
@@ -21,37 +24,43 @@ use rows::degree_at;
 use rows::radius_at;
 use rows::value_at;
 
-// The most bytes of a line besides its key: `=`, a sign, 20 digits and the line feed.
-const MOST_NUMBER: usize = 23;
+// The bytes of a line besides its key, its digits and their sign: `=` and the line feed.
+const ENDS: usize = 2;
 
-// The most bytes of a value and a radius.
-const MOST_BALL: usize = 5 + MOST_NUMBER + 6 + MOST_NUMBER;
+// The most bytes of a value and a radius: value=-1610612736, radius=536870912.
+const MOST_BALL: usize = 5 + 11 + ENDS + 6 + 9 + ENDS;
 
-// Of a row's number, its degree and the most balls.
-const MOST_ROW: usize = 3 + MOST_NUMBER + 6 + MOST_NUMBER + MOST_QUANTITIES * MOST_BALL;
+// Of a row's number, its degree and the most balls: row=400, degree=28.
+const MOST_ROW: usize = 3 + 3 + ENDS + 6 + 2 + ENDS + MOST_QUANTITIES * MOST_BALL;
 
-// Of a result and the refused step.
-const MOST_OUTCOME: usize = 6 + MOST_NUMBER + 2 + MOST_NUMBER;
+// Of a result and the refused step: result=10, at=400.
+const MOST_OUTCOME: usize = 6 + 2 + ENDS + 2 + 3 + ENDS;
+
+// Of a row that another one follows. Question 4 has let it pass, so each of its values has a digit less.
+const MOST_EARLIER_ROW: usize = MOST_ROW - MOST_QUANTITIES;
 
 // Bytes for the text of every answer: the most rows, and the outcome.
-pub const TEXT_LENGTH: usize = MOST_STEPS * MOST_ROW + MOST_OUTCOME;
+pub const TEXT_LENGTH: usize = (MOST_STEPS - 1) * MOST_EARLIER_ROW + MOST_ROW + MOST_OUTCOME;
 
 // A quantity's two lines.
 fn put_ball(text: &mut [u8], at: usize, value: i64, radius: u64) -> usize
-    requires { ⌜ at + most-ball < 2 ^ 64 ⌝ }
+    requires { ⌜ natAbs value ≤ most-value ⌝ }
+    requires { ⌜ radius ≤ most ⌝ }
+    requires { ⌜ at + most-ball value-digits ≤ length (now text) ⌝ }
     ensures put { λ r. ⌜ Put (now (text .entry)) at (answer.ballsText (record { value = value; radius = radius } ∷ [])) r (now (text .exit)) ⌝ }
-    ensures bounded { λ r. ⌜ r ≤ at + most-ball ⌝ }
+    ensures bounded { λ r. ⌜ r ≤ at + most-ball value-digits ⌝ }
 {
-    let next = put_whole(text, at, b"value=", value);
-    put_line(text, next, b"radius=", radius)
+    let next = put_line(text, at, b"value=", value);
+    put_line(text, next, b"radius=", radius as i64)
 }
 
 // The lines of each quantity of a row, the rows counted from 0.
 fn put_balls(text: &mut [u8], at: usize, n: usize, rows: &[i64], row: usize) -> usize
     requires { ⌜ HasRow n row (now rows) ⌝ }
-    requires { ⌜ at + n * most-ball < 2 ^ 64 ⌝ }
+    requires { ⌜ Printable (rowIn n (now rows) row) ⌝ }
+    requires { ⌜ at + n * most-ball value-digits ≤ length (now text) ⌝ }
     ensures put { λ r. ⌜ Put (now (text .entry)) at (answer.ballsText (rowIn n (now (rows .entry)) row .balls)) r (now (text .exit)) ⌝ }
-    ensures bounded { λ r. ⌜ r ≤ at + n * most-ball ⌝ }
+    ensures bounded { λ r. ⌜ r ≤ at + n * most-ball value-digits ⌝ }
 {
     let mut next = at;
     let mut i = 0;
@@ -64,55 +73,63 @@ fn put_balls(text: &mut [u8], at: usize, n: usize, rows: &[i64], row: usize) -> 
     next
 }
 
-// A row's lines, the rows counted from 0 in the buffer and from 1 in the text.
-fn put_row(text: &mut [u8], at: usize, n: usize, rows: &[i64], row: usize) -> usize
+// A row's lines, from the buffer's start on, the rows counted from 0 in the buffer and from 1 in the text.
+fn put_row(text: &mut [u8], n: usize, rows: &[i64], row: usize) -> usize
     requires { ⌜ HasRow n row (now rows) ⌝ }
-    requires { ⌜ at + most-row n < 2 ^ 64 ⌝ }
-    ensures put { λ r. ⌜ Put (now (text .entry)) at (answer.rowsText (suc row) (rowIn n (now (rows .entry)) row ∷ [])) r (now (text .exit)) ⌝ }
-    ensures bounded { λ r. ⌜ r ≤ at + most-row n ⌝ }
+    requires { ⌜ Printable (rowIn n (now rows) row) ⌝ }
+    requires { ⌜ row < most-steps ⌝ }
+    requires { ⌜ most-row value-digits n ≤ length (now text) ⌝ }
+    ensures put { λ r. ⌜ Put (now (text .entry)) 0 (answer.rowsText (suc row) (rowIn n (now (rows .entry)) row ∷ [])) r (now (text .exit)) ⌝ }
+    ensures bounded { λ r. ⌜ r ≤ most-row value-digits n ⌝ }
 {
     let degree = degree_at(rows, n, row);
-    let numbered = put_line(text, at, b"row=", row as u64 + 1);
-    let headed = put_line(text, numbered, b"degree=", degree);
+    let numbered = put_line(text, 0, b"row=", (row + 1) as i64);
+    let headed = put_line(text, numbered, b"degree=", degree as i64);
     put_balls(text, headed, n, rows, row)
 }
 
 // The lines of the first `count` rows.
-fn put_rows(text: &mut [u8], at: usize, n: usize, count: usize, rows: &[i64]) -> usize
+fn put_rows(text: &mut [u8], n: usize, count: usize, rows: &[i64]) -> usize
     requires { ⌜ HasRows n count (now rows) ⌝ }
-    requires { ⌜ at + count * most-row n < 2 ^ 64 ⌝ }
-    ensures put { λ r. ⌜ Put (now (text .entry)) at (answer.rowsText 1 (rowsIn n count (now (rows .entry)))) r (now (text .exit)) ⌝ }
-    ensures bounded { λ r. ⌜ r ≤ at + count * most-row n ⌝ }
+    requires { ⌜ RowsPrintable n count (now rows) ⌝ }
+    requires { ⌜ count ≤ most-steps ⌝ }
+    ensures put { λ r. ⌜ Put (now (text .entry)) 0 (answer.rowsText 1 (rowsIn n count (now (rows .entry)))) r (now (text .exit)) ⌝ }
+    ensures bounded { λ r. ⌜ r ≤ count * most-row value-digits n ⌝ }
 {
-    let mut next = at;
+    let mut lines = [0u8; MOST_ROW];
+    let mut next = 0;
     let mut row = 0;
     while row < count {
-        next = put_row(text, next, n, rows, row);
+        let length = put_row(&mut lines, n, rows, row);
+        next = put_front(text, next, &lines[..length]);
         row += 1;
     }
     next
 }
 
-// The last two lines. They are short whatever the outcome, so a bound of the place is all that they ask.
+// The last two lines.
 fn put_outcome(text: &mut [u8], at: usize, outcome: Outcome) -> usize
+    requires { ⌜ refusedStep outcome ≤ most-steps ⌝ }
     requires { ⌜ at < 2 ^ 32 ⌝ }
-    ensures put { λ r. ⌜ Put (now (text .entry)) at (answer.outcomeText outcome) r (now (text .exit)) ⌝ }
-    ensures bounded { λ r. ⌜ r ≤ at + most-outcome ⌝ }
+    ensures { λ r. ⌜ Put (now (text .entry)) at (answer.outcomeText outcome) r (now (text .exit)) ⌝ }
 {
     let number = result(outcome);
     let step = refused_step(outcome);
-    let next = put_line(text, at, b"result=", number);
-    put_line(text, next, b"at=", step)
+    let mut lines = [0u8; MOST_OUTCOME];
+    let next = put_line(&mut lines, 0, b"result=", number as i64);
+    let end = put_line(&mut lines, next, b"at=", step as i64);
+    put_front(text, at, &lines[..end])
 }
 
-// The whole answer of a passage: the first `count` rows of the buffer, and what came of it. The result is the answer's
-// length, which may be more than the text's.
+// The whole answer of a passage: the first `count` rows of the buffer, and what came of it, with no number that is longer
+// than a passage's are. The result is the answer's length, which may be more than the text's.
 pub fn put_run(text: &mut [u8], n: usize, count: usize, rows: &[i64], outcome: Outcome) -> usize
     requires { ⌜ HasRows n count (now rows) ⌝ }
+    requires { ⌜ RowsPrintable n count (now rows) ⌝ }
     requires { ⌜ count ≤ most-steps ⌝ }
-    ensures printed { λ r. ⌜ Printed (now (text .entry)) (answer.runText (record { rows = rowsIn n count (now (rows .entry)); outcome = outcome })) r (now (text .exit)) ⌝ }
-    ensures bounded { λ r. ⌜ r ≤ most-answer ⌝ }
+    requires { ⌜ refusedStep outcome ≤ most-steps ⌝ }
+    ensures { λ r. ⌜ Printed (now (text .entry)) (answer.runText (record { rows = rowsIn n count (now (rows .entry)); outcome = outcome })) r (now (text .exit)) ⌝ }
 {
-    let end = put_rows(text, 0, n, count, rows);
+    let end = put_rows(text, n, count, rows);
     put_outcome(text, end, outcome)
 }

@@ -3,7 +3,7 @@ use mathlib.Core.List.{List}
 use mathlib.Core.Path.{subst}
 use Prim.Native.Nat.{ℕ}
 use Rattle.decimal.specs.Pieces.{Printed}
-use Rattle.answer.proofs.Answered.{ran-text, ran-bounds, ran-trusted}
+use Rattle.answer.proofs.Answered.{ran-text, ran-bounds, ran-in-range, ran-step, ran-short, ran-trusted}
 use borrow.Author.Needs.{needs}
 use Rattle.answer.proofs.planner_answer.Statement.{statement}
 use Rattle.answer.proofs.planner_answer.Tie as tie
@@ -14,12 +14,16 @@ returns c =
     let run = put .before .before .before .before in
     let args = run .before .before .before .before .args in
     let ran = run .run-sheet .ensures in
-    (subst (λ (text : List ℕ). Printed (args .text .now) text (put .put-run .result) (put .put-run .last .0)) (ran-text (args .sheet .now) ran) (put .put-run .ensures .0), (ran .buffer, (put .put-run .ensures .1, ran-trusted (args .sheet .now) ran)))
+    let printed = subst (λ (text : List ℕ). Printed (args .text .now) text (put .put-run .result) (put .put-run .last .0)) (ran-text (args .sheet .now) ran) (put .put-run .ensures) in
+    (printed, (ran .buffer, (ran-short (args .sheet .now) ran printed, ran-trusted (args .sheet .now) ran)))
 
 put-run-requires : tie.Need-put-run-requires
 put-run-requires c κs =
     let run = c .before .before .before in
-    ran-bounds (run .before .before .before .before .args .sheet .now) (run .run-sheet .ensures)
+    let sheet = run .before .before .before .before .args .sheet .now in
+    let ran = run .run-sheet .ensures in
+    let bounds = ran-bounds sheet ran in
+    (bounds .0, (ran-in-range sheet ran, (bounds .1, ran-step sheet ran)))
 
 run-sheet-requires : tie.Need-run-sheet-requires
 run-sheet-requires c κs = search needs

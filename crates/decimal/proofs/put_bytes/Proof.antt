@@ -33,7 +33,7 @@ shared-slice-read-put-byte c = omega arith
 put-byte-requires : tie.Need-put-byte-requires Inv-loop μ-loop
 put-byte-requires c κs =
     let at-loop = c .before .before .before in
-    record { fits = omega (arith, at-loop .loop .inv .1 .counted, length-take-le (at-loop .loop .i) (at-loop .before .before .before .args .bytes .now) (at-loop .loop .inv .0)) }
+    record { fits = omega (arith, at-loop .before .before .before .pre .fits, at-loop .loop .inv .1 .counted, put-keeps-length (at-loop .loop .inv .1), length-take-le (at-loop .loop .i) (at-loop .before .before .before .args .bytes .now) (at-loop .loop .inv .0)) }
 
 add-i : tie.Need-add-i Inv-loop μ-loop
 add-i c = omega arith

@@ -1,20 +1,22 @@
 -- `text::put_balls` meets its contract. After i turns the first i balls are put. Assumes nothing.
-use Prim.Native.Nat.{ℕ, _+_, _-_, _*_, _≤_}
+use Prim.Native.Nat.{ℕ, _+_, _-_, _*_, _≤_, _<_}
 use mathlib.Core.Path.{_≡_, ap, _∙_}
 use mathlib.Core.List.{List, [], _∷_}
 use native.Mathlib.Omega.{arith}
 use borrow.Author.Needs.{needs}
 use lib.IntN.{ℤ}
+use lib.ListN.{length}
 use mir.Syntax.{w64}
 use mir.Val.{SFits, toZ, ofZ}
 use mir.Facts.{toZ-ofZ}
 use Rattle.model.specs.Range.{tabulate}
+use Rattle.model.specs.Rows.{rowIn}
 use Rattle.model.specs.Answer.{ballsText}
 use Rattle.model.specs.declared.Ball.{Ball}
 use Rattle.decimal.specs.Pieces.{Put}
 use Rattle.decimal.proofs.Pieces.{Grows, put-nothing, put-turn, put-same, put-keeps-length}
-use Rattle.text.specs.Lengths.{most-ball}
-use Rattle.text.proofs.Lines.{ballAt, all-balls, balls-grow}
+use Rattle.text.specs.Lengths.{value-digits, most-ball}
+use Rattle.text.proofs.Lines.{ballAt, length-row-balls, all-balls, balls-grow}
 use Rattle.text.proofs.put_balls.Statement.{statement}
 use Rattle.text.proofs.put_balls.Tie as tie
 
@@ -31,7 +33,7 @@ ball-lines : {value : ℤ} {radius : ℕ} (ball : Ball) → SFits w64 value → 
 ball-lines ball f e g = rw (toZ-ofZ f, e, g)
 
 abbrev Inv-loop : tie.InvT-loop
-Inv-loop text₀ at n rows row next₀ i₀ text next i = (i ≤ n) × (next ≤ at + i * most-ball) × Put text₀ at (lines n rows row i) next text
+Inv-loop text₀ at n rows row next₀ i₀ text next i = (i ≤ n) × (next ≤ at + i * most-ball value-digits) × Put text₀ at (lines n rows row i) next text
 
 abbrev μ-loop : tie.MeasureT-loop
 μ-loop text₀ at n rows row next₀ i₀ text next i = n - i
@@ -63,7 +65,15 @@ radius-at-requires : tie.Need-radius-at-requires Inv-loop μ-loop
 radius-at-requires c κs = search needs
 
 put-ball-requires : tie.Need-put-ball-requires Inv-loop μ-loop
-put-ball-requires c κs = omega arith
+put-ball-requires c κs =
+    let radius = c .before in
+    let value = radius .before in
+    let at-loop = value .before .before in
+    let start = at-loop .before .before in
+    let row = start .args in
+    let held : at-loop .loop .i < length (rowIn (row .n) (row .rows .now) (row .row) .balls) = rw (length-row-balls (row .n) (row .rows .now) (row .row)) (omega arith) in
+    let in-range = start .pre .1 .0 in
+    (rw (toZ-ofZ (record { sfits = value .value-at .ok }), value .value-at .ensures) (in-range .values (at-loop .loop .i) held), (rw (radius .radius-at .ensures) (in-range .radii (at-loop .loop .i) held), omega (arith, start .pre .1 .1, put-keeps-length (at-loop .loop .inv .2), at-loop .loop .inv .1)))
 
 add-i : tie.Need-add-i Inv-loop μ-loop
 add-i c = omega arith
