@@ -1,6 +1,6 @@
 //! The proved planner beside this program, in one process: the same sheet and equal buffers to both,
-//! then every byte of the text, every place of the buffer and the summary compared; the same rows and
-//! query to both, then the answers compared.
+//! then every byte of the text, of a shorter text too, every place of the buffer and the summary
+//! compared; the same rows and query to both, then the answers compared.
 
 use crate::answer::{self, Summary};
 use crate::clearance::{COUNT, FirstClear};
@@ -21,19 +21,44 @@ pub struct Outcome {
     /// What it made of the same trial when no text was asked for.
     pub summary: Summary,
     pub rows_without_text: Vec<i64>,
+    pub lent: Lent,
 }
 
-/// This program's outcome, its buffer filled with `mark` before.
+/// The same text in a buffer of another length, which may be too short for it: the length handed back,
+/// and what the buffer holds.
+#[derive(Clone, Debug, PartialEq, Eq)]
+pub struct Lent {
+    pub length: usize,
+    pub held: Vec<u8>,
+}
+
+/// The bytes to lend for a text of such a length: fewer than it has, as a rule, or a few more.
+fn lent_bytes(trial: &Trial, length: usize) -> usize {
+    trial.places % (length + 32)
+}
+
+/// What a buffer's bytes are before.
+fn byte_mark(mark: i64) -> u8 {
+    mark.to_le_bytes()[0]
+}
+
+/// This program's outcome, its buffers filled with `mark` before.
 pub fn reference(trial: &Trial, mark: i64) -> Outcome {
     let mut rows = vec![mark; trial.places];
     let summary = answer::run(&trial.sheet, &mut rows);
     let text = answer::text(&summary, &rows).into_bytes();
     let rows_without_text = rows.clone();
+    let length = text.len();
+    let mut held = vec![byte_mark(mark); lent_bytes(trial, length)];
+    for (place, &byte) in held.iter_mut().zip(&text) {
+        *place = byte;
+    }
     Outcome {
         text,
         rows,
         summary,
         rows_without_text,
+        lent: Lent { length, held },
     }
 }
 
@@ -168,7 +193,7 @@ pub fn planner_first_clear(_trial: &QueryTrial) -> Option<i64> {
     None
 }
 
-/// The proved planner's outcome, its buffer filled with `mark` before; none where it is not linked.
+/// The proved planner's outcome, its buffers filled with `mark` before; none where it is not linked.
 pub fn proved(trial: &Trial, mark: i64) -> Option<Outcome> {
     let mut rows = vec![mark; trial.places];
     let mut text = vec![0; MOST_TEXT];
@@ -176,11 +201,14 @@ pub fn proved(trial: &Trial, mark: i64) -> Option<Outcome> {
     text.truncate(length);
     let mut rows_without_text = vec![mark; trial.places];
     let summary = planner_run(&trial.sheet, &mut rows_without_text)?;
+    let mut held = vec![byte_mark(mark); lent_bytes(trial, length)];
+    let length = planner_answer(&trial.sheet, &mut rows.clone(), &mut held)?;
     Some(Outcome {
         text,
         rows,
         summary,
         rows_without_text,
+        lent: Lent { length, held },
     })
 }
 

@@ -299,6 +299,40 @@ fn of_high_degree(random: &mut Random) -> Sheet {
     sheet
 }
 
+/// A sheet whose first row has values of nine and ten digits. By x' = x² ÷ 64 a start of x wholes is x ÷ (1 - x ÷ 64)
+/// after one whole: 517,779,895 units become 10^9.
+pub fn of_long_numbers(random: &mut Random) -> Sheet {
+    const LEAST_OF_TEN_DIGITS: i64 = 517_779_895;
+    let n = random.even(QUANTITIES);
+    let direction = direction(random);
+    let mut starts = Vec::new();
+    let mut terms = Vec::new();
+    for to in 1..=n {
+        let near = random.even(-4..=4);
+        let far = random.even(-1_000_000..=LIMIT - LEAST_OF_TEN_DIGITS);
+        let size = LEAST_OF_TEN_DIGITS + random.of(&[near, far]);
+        let sign = random.of(&[-1, 1]);
+        starts.push(Start {
+            value: Some(sign * size),
+            radius: random.spread(RADIUS).min(LIMIT - size),
+        });
+        terms.push(Term {
+            to,
+            coef: sign * direction * (1 << 18),
+            first: to,
+            second: to,
+        });
+    }
+    Sheet {
+        steps: random.even(1..=2),
+        step: direction << 24,
+        tail: random.even(2..=1000),
+        tol: LIMIT,
+        starts,
+        terms,
+    }
+}
+
 /// A sheet with a start, or another field, that reads `none`.
 fn missing_reading(random: &mut Random) -> Vec<u8> {
     let mut sheet = calm(random);

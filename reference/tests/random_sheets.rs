@@ -1,7 +1,7 @@
 //! The random sheets reach what they are made for: every result, and both sides of every edge, by
 //! forecasts and by hindcasts.
 
-use reference::compare::{Tally, reference};
+use reference::compare::{Outcome, Tally, reference};
 use reference::generate::{Trial, Trials, text};
 use reference::passage::{run, start};
 use reference::rounding::SCALE_SIZE;
@@ -90,11 +90,41 @@ struct Met {
     edges: Edges,
     longest: usize,
     one_byte_longer: usize,
+    texts: Texts,
+}
+
+/// How the texts stood to the bytes lent for them.
+#[derive(Debug, Default)]
+struct Texts {
+    cut_in_a_row: usize,
+    cut_in_the_outcome: usize,
+    bytes_to_spare: usize,
+}
+
+impl Texts {
+    fn least(&self) -> usize {
+        let counts = [
+            self.cut_in_a_row,
+            self.cut_in_the_outcome,
+            self.bytes_to_spare,
+        ];
+        counts.into_iter().min().unwrap()
+    }
+
+    fn meet(&mut self, outcome: &Outcome) {
+        let text = String::from_utf8_lossy(&outcome.text);
+        let (rows, lent) = (text.rfind("result=").unwrap(), outcome.lent.held.len());
+        let cut = lent < text.len();
+        self.cut_in_a_row += usize::from(cut && lent < rows);
+        self.cut_in_the_outcome += usize::from(cut && lent >= rows);
+        self.bytes_to_spare += usize::from(lent > text.len());
+    }
 }
 
 impl Met {
     fn meet(&mut self, trial: &Trial) {
         let outcome = reference(trial, -1);
+        self.texts.meet(&outcome);
         self.sheets += 1;
         self.rows += outcome.ending().rows;
         self.tally.count(&outcome);
@@ -131,6 +161,7 @@ fn every_result_and_every_edge_is_met_by_hundreds_of_each_direction() {
         assert!(met.tally.results.into_iter().all(|count| count >= 200));
         assert!(met.edges.least() >= 200);
         assert!(met.longest.min(met.one_byte_longer) >= 200);
+        assert!(met.texts.least() >= 200);
     }
 }
 
