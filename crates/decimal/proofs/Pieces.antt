@@ -53,11 +53,13 @@ put-past {a} {x} {i} h = record { counted = refl; stored = sym (sets-past a i x 
 module _ {before text after : List ℕ} {count : ℕ} (p : Printed before text count after) where
   -- where it fits, what stood behind it stands there still ..
   pub printed-rest : length text ≤ length before → drop count after ≡ drop count before
-  printed-rest h = rw (p .counted, p .held, take-all (length before) text h) (drop-append-seam text (drop (length text) before))
+  printed-rest h =
+      ap (λ (l : List ℕ). drop count l) (p .held) ∙ rw (p .counted, take-all (length before) text h) (drop-append-seam text (drop (length text) before))
 
   -- .. and it stands at the start
   pub printed-whole : length text ≤ length before → take count after ≡ text
-  printed-whole h = rw (p .counted, p .held, take-all (length before) text h) (take-append-seam text (drop (length text) before))
+  printed-whole h =
+      ap (λ (l : List ℕ). take count l) (p .held) ∙ rw (p .counted, take-all (length before) text h) (take-append-seam text (drop (length text) before))
 
   -- where it does not, as much of it as there is room for
   pub printed-cut : length before ≤ length text → after ≡ take (length before) text

@@ -1,4 +1,4 @@
--- How long the lines of an answer can be. Assumes nothing.
+-- How long an answer can be, line by line. Assumes nothing.
 use Prim.Native.Nat.{ℕ, suc, _+_, _*_, _^_, _≤_, _<_}
 use Prim.Native.String.{String}
 use mathlib.Core.Path.{_≡_, refl, ap}
@@ -109,7 +109,7 @@ length-rows n number (row-first {row = row} w none) (row-first range none) last 
 length-rows n number (row-first {row = row} w (row-first {row = next} {rows = rows} v wide)) (row-first range ranges) (earlier p passed) h =
     omega (arith, ap length (rows-append number (row ∷ []) (next ∷ rows)), length-append (rowsText number (row ∷ [])) (rowsText (number + 1) (next ∷ rows)), length-row passed-digits number row (omega arith) (omega arith) range (λ i k. omega (arith, p i k)), ap (λ (m : ℕ). most-row passed-digits m) w, length-rows n (number + 1) (row-first v wide) ranges passed (omega arith), suc-mul (suc (length rows)) (most-row passed-digits n))
 
--- rows of n quantities
+-- so many rows of n quantities, whichever is the last
 pub rows-brief : (n count : ℕ) → n ≤ most-quantities → count ≤ most-steps → count * most-row value-digits n ≤ most-steps * most-row value-digits most-quantities
 rows-brief n count h k = omega (arith, mul-le-mul-right (most-row value-digits n) k)
 
@@ -120,7 +120,7 @@ unfolding runText
 length-run n run few short wide ranges passed step =
     omega (arith, length-append (rowsText 1 (run .rows)) (outcomeText (run .outcome)), length-rows n 1 wide ranges passed (omega arith), length-outcome (run .outcome) step, mul-le-mul-right (most-row passed-digits n) short)
 
--- ---- no fewer would do: there are a row in range and an outcome of so many bytes
+-- ---- no fewer would do: there are a printable row and an outcome of so many bytes
 
 longest-ball : Ball
 longest-ball = record { value = negℤ (pos most-value); radius = most }
@@ -128,9 +128,9 @@ longest-ball = record { value = negℤ (pos most-value); radius = most }
 longest-row : Row
 longest-row = record { degree = most-degree; balls = tabulate most-quantities (λ i. longest-ball) }
 
-longest-in-range : Printable longest-row
+longest-printable : Printable longest-row
 unfolding longest-row longest-ball most tabulate
-longest-in-range =
+longest-printable =
     record { degree = omega arith; values = λ i h. rw (each i h) (omega arith); radii = λ i h. rw (each i h) (omega arith) }
   where
     each : (i : ℕ) → i < length (longest-row .balls) → getD (longest-row .balls) i no-ball ≡ longest-ball

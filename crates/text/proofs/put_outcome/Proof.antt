@@ -5,19 +5,14 @@ use mathlib.Core.List.{List, _++_}
 use native.Mathlib.Omega.{arith}
 use borrow.Author.Needs.{needs}
 use lib.IntN.{pos}
-use lib.ListN.{length, take, length-append}
+use lib.ListN.{length, take}
 use lib.Seq.{length-take-le}
 use Rattle.model.specs.Range.{tabulate, bytes}
-use Rattle.model.specs.Sheet.{number, result}
 use Rattle.model.specs.Answer.{printed, outcomeText}
-use Rattle.model.specs.declared.Outcome.{Outcome}
-use Rattle.model.specs.declared.Outcome.the-variants.{Accepted, Refused}
-use Rattle.model.specs.declared.Refusal.{Refusal}
-use Rattle.model.specs.declared.Refusal.the-variants.{Oversized, Misspelt, OutOfRange, NoReading, TooFewPlaces, TooLarge, StepTooLong, Intolerable, QueryOutOfRange, RowOutOfRange}
 use Rattle.model.proofs.Ranges.{length-tabulate}
 use Rattle.decimal.specs.Pieces.{Put}
 use Rattle.decimal.proofs.Pieces.{put-then, put-same, put-keeps-length, put-taken, room-first, room-rest}
-use Rattle.text.specs.Lengths.{most-line, most-outcome}
+use Rattle.text.specs.Lengths.{most-outcome}
 use Rattle.text.proofs.Lengths.{natural-fits, line-asked, line-put, result-short, length-outcome}
 use Rattle.text.proofs.put_outcome.Statement.{statement}
 use Rattle.text.proofs.put_outcome.Tie as tie
