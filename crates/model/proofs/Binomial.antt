@@ -1,7 +1,7 @@
 -- Binomial numbers, and what they do to the common denominators M of the exact sums: C(k,l) · M_l · M_(k−l) = D · M_k, by Pascal's rule and
 -- M_(k+1) = M_k · (k+1) · (D s w). Assumes nothing.
 use Prim.Native.Nat.{ℕ, zero, suc, _+_, _-_, _*_, _≤_, _<_}
-use mathlib.Core.Path.{_≡_, refl, ap, ap₂, _∙_}
+use mathlib.Core.Path.{_≡_, refl, sym, ap, ap₂, _∙_}
 use native.Mathlib.Nat.{add-sub-of-le, one-mul, mul-assoc, mul-comm}
 use native.Mathlib.Omega.{arith}
 use Rattle.rounding.proofs.Integers.{ringℕ}
@@ -18,6 +18,14 @@ pub binomial-all : (k : ℕ) → binomial k k ≡ 1
 unfolding binomial
 binomial-all zero = refl
 binomial-all (suc k) = omega (arith, binomial-all k, binomial-over k (suc k) (omega arith))
+
+-- C(k,l) = C(k,k−l)
+pub binomial-symmetric : (k l m : ℕ) → l + m ≡ k → binomial k l ≡ binomial k m
+unfolding binomial
+binomial-symmetric k zero m e = let same : k ≡ m = omega (arith, e) in rw same (sym (binomial-all m))
+binomial-symmetric k (suc l) zero e = let same : k ≡ suc l = omega (arith, e) in rw same (binomial-all (suc l))
+binomial-symmetric zero (suc l) (suc m) e = absurd (omega arith)
+binomial-symmetric (suc k) (suc l) (suc m) e = omega (arith, binomial-symmetric k l (suc m) (omega arith), binomial-symmetric k (suc l) m (omega arith))
 
 -- one more by Pascal's rule: a and b are C(k-1,l-1) and C(k-1,l), M and N the denominators at l - 1 and m - 1, X what k - 1 comes to
 pascal : (a b M N p l m k X : ℕ) → l + m ≡ k → a * (M * (N * (m * p))) ≡ X → b * (M * (l * p) * N) ≡ X → (a + b) * (M * (l * p) * (N * (m * p))) ≡ X * (k * p)

@@ -1,4 +1,5 @@
--- Demand 3 is not met by any row: case A's own row, which holds the exact sums of A, is not trusted where A's step goes back. Assumes nothing.
+-- Demand 3 is not met by any row: case A's own row, which holds the exact sums of A, is not trusted where A's step goes back; and A's value alone,
+-- which is the exact sum of its degree, is not trusted, since those of higher degrees differ. Assumes nothing.
 use Prim.Native.Nat.{ℕ, zero, suc, _≤_, _<_}
 use mathlib.Core.Bool.{false≢true}
 use mathlib.Core.List.{List, [], _∷_}
@@ -11,7 +12,7 @@ use Rattle.rounding.specs.Enclosure.{Within}
 use Rattle.model.specs.Range.{sumℤ, tabulate}
 use Rattle.model.specs.Sheet.{scale, no-term, no-quantity, listed, termsOf, startValue, startBall, startsOf, padded, quantitiesHeld, termsHeld}
 use Rattle.model.specs.Exact.{binomial, bringsℤ, State, order, factorℤ, product, nextOrder, ordersTo, sumDenominator, sumNumerator, exactSum}
-use Rattle.model.specs.Step.{no-ball, Row}
+use Rattle.model.specs.Step.{Ball, no-ball, Row}
 use Rattle.model.specs.Trust.{LiesWithin, stateAfter, no-row, NoLower, Trusted, TrustedOf}
 use Rattle.model.specs.declared.Sheet.{Sheet}
 use Rattle.model.specs.declared.Start.the-variants.{Reading}
@@ -41,15 +42,23 @@ start-lies step = record { rational = omega arith; quantities = refl; near = at 
     at zero h = record { off = omega arith }
     at (suc i) h = absurd (omega arith)
 
-no-lower : NoLower (2 ∷ []) row-of-A
-unfolding row-of-A
-no-lower = record { each = refl; lower = at }
+no-lower : (K : ℕ) → 2 ≤ K → (ball : Ball) → NoLower (K ∷ []) (record { degree = 2; balls = ball ∷ [] } ∷ [])
+no-lower K le ball = record { each = refl; lower = at }
   where
-    at : (j : ℕ) → j < 1 → getD row-of-A j no-row .degree ≤ getD (2 ∷ []) j 0
-    at zero h = omega arith
+    at : (j : ℕ) → j < 1 → getD (record { degree = 2; balls = ball ∷ [] } ∷ []) j no-row .degree ≤ getD (K ∷ []) j 0
+    at zero h = le
     at (suc j) h = absurd (omega arith)
 
 pub forward-row-distrusted : TrustedOf (case-A (negℤ (pos 4194304))) row-of-A → ⊥
 unfolding TrustedOf Trusted case-A row-of-A whole stateAfter exactSum sumDenominator sumNumerator ordersTo order nextOrder product factorℤ bringsℤ binomial sumℤ tabulate listed termsOf termsHeld padded no-term no-row no-ball scale pow one
 forward-row-distrusted h =
-    false≢true (le-leb _ _ (h whole (start-lies _) (2 ∷ []) no-lower 0 (omega arith) .0 .near 0 (omega arith) .off))
+    false≢true (le-leb _ _ (h whole (start-lies _) (2 ∷ []) (no-lower 2 (omega arith) _) 0 (omega arith) .0 .near 0 (omega arith) .off))
+
+-- the same value with radius 0
+pub value-of-A : List Row
+value-of-A = record { degree = 2; balls = record { value = pos 22020096; radius = 0 } ∷ [] } ∷ []
+
+pub value-alone-distrusted : TrustedOf (case-A (pos 4194304)) value-of-A → ⊥
+unfolding TrustedOf Trusted case-A value-of-A whole stateAfter exactSum sumDenominator sumNumerator ordersTo order nextOrder product factorℤ bringsℤ binomial sumℤ tabulate listed termsOf termsHeld padded no-term no-row no-ball scale pow one
+value-alone-distrusted h =
+    false≢true (le-leb _ _ (h whole (start-lies _) (3 ∷ []) (no-lower 3 (omega arith) _) 0 (omega arith) .0 .near 0 (omega arith) .off))

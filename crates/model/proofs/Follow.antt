@@ -15,11 +15,12 @@ use Rattle.model.specs.declared.Term.{Term}
 use Rattle.model.specs.declared.Refusal.{Refusal}
 use Rattle.model.specs.declared.Outcome.{Outcome}
 use Rattle.model.specs.declared.Outcome.the-variants.{Accepted, Refused}
-use Rattle.model.proofs.Rows.{Wide, none, row-first, places-length, written-is-sets, sets-one-row-more}
+use Rattle.model.proofs.Lists.{none, entry-first}
+use Rattle.model.proofs.Rows.{Wide, places-length, written-is-sets, sets-one-row-more}
 
 wide-one-more : {n : ℕ} {rows : List Row} (row : Row) → Wide n rows → length (row .balls) ≡ n → Wide n (rows ++ (row ∷ []))
-wide-one-more row none h = row-first h none
-wide-one-more row (row-first l w) h = row-first l (wide-one-more row w h)
+wide-one-more row none h = entry-first h none
+wide-one-more row (entry-first l w) h = entry-first l (wide-one-more row w h)
 
 -- a run, with rows before its own
 unfoldable pub after : List Row → Run → Run

@@ -57,7 +57,7 @@ module _ {terms : List Term} {H : ℤ} {balls : List Ball} (bounds : InBounds te
         4 * sum m (λ j. brings (suc i) (getD terms j no-term) (reach (share H table k (getD terms j no-term)))) ≤ suc k * (2 * greatest balls + 5) + 5440
     unfolding scale weightOf total most-total
     shares-bounded i m h l =
-        combine (greatest balls) _ (natAbs H * weightOf terms (greatest balls) (suc i)) _ _ (scale-le-greatest balls) (shares-weighed table k reaches H (scale-le-greatest balls) (λ j. getD terms j no-term) (bounds .sheet .formed) (suc i) m .bound) (mul-le-mul-left (natAbs H) (sum-partial _ (length terms) l)) (weight-halved i h) (le-trans (sum-partial _ (length terms) l) (bounds .sheet .total)) (le-trans l (bounds .sheet .count))
+        combine (greatest balls) _ (natAbs H * weightOf terms (greatest balls) (suc i)) _ _ (scale-le-greatest balls) (shares-weighed table k reaches H (scale-le-greatest balls) (λ j. getD terms j no-term) (bounds .sheet .formed) (suc i) m .bound) (mul-le-mul-left (natAbs H) (sum-partial _ (length terms) l)) (weight-halved i h) (le-trans (sum-partial _ (length terms) l) (bounds .sheet .summable .total)) (le-trans l (bounds .sheet .summable .count))
       where
         combine : (g x y t v : ℕ) → scale ≤ g → 2 * (scale * scale * scale) * (g * v) ≤ suc k * ((2 * g + 5) * x) + 5 * (scale * scale) * (g * t) + 5 * (scale * scale * scale) * (g * m) → x ≤ y → 2 * y ≤ g * (scale * scale * scale) → t ≤ most-total → m ≤ most-terms → 4 * v ≤ suc k * (2 * g + 5) + 5440
         combine g x y t v a e f p q r =

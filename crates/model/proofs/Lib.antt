@@ -1,5 +1,10 @@
 pub mod Cases
 pub mod Ranges
+pub mod Lists
+pub mod Like
+pub mod Filters
+pub mod Gathered
+pub mod GatheredAlone
 pub mod Tests
 pub mod Tables
 pub mod Fuel
@@ -8,6 +13,7 @@ pub mod Rows
 pub mod Passages
 pub mod Fractions
 pub mod Binomial
+pub mod Convolution
 pub mod Paper
 pub mod Denominators
 pub mod Reach
@@ -19,6 +25,7 @@ pub mod Shares
 pub mod Invariant
 pub mod WorkingNumbers
 pub mod NextCoefficient
+pub mod GatheredRates
 pub mod Least
 pub mod Degree
 pub mod Distrust
@@ -38,5 +45,6 @@ pub mod Trusted
 pub mod Counts
 pub mod Listed
 pub mod SheetBounds
+pub mod GatheredBounds
 pub mod RowRange
 pub mod Follow

@@ -1,9 +1,10 @@
 -- The terms that a record holds, by their places: how many, each, and a sum over them. Assumes nothing.
-use Prim.Native.Nat.{ℕ, _<_}
+use Prim.Native.Nat.{ℕ, _≤_, _<_}
 use mathlib.Core.Path.{_≡_, ap}
 use lib.ListN.{length, getD}
 use Rattle.model.specs.Range.{sum}
-use Rattle.model.specs.Sheet.{no-term, listed}
+use Rattle.model.specs.Sheet.{most-terms, no-term, listed}
+use Rattle.model.specs.Bounds.{Summable}
 use Rattle.model.specs.declared.Term.{Term}
 use Rattle.model.specs.declared.Terms.{Terms}
 use Rattle.model.proofs.Ranges.{sum-equal, length-tabulate, getD-tabulate}
@@ -12,6 +13,10 @@ module _ (terms : Terms) where
   pub length-listed : length (listed terms) ≡ terms .count
   unfolding listed
   length-listed = length-tabulate (terms .count) _
+
+  -- terms that can be summed up are few
+  pub few-listed : Summable (listed terms) → terms .count ≤ most-terms
+  few-listed summable = rw length-listed at (summable .count)
 
   pub getD-listed : (j : ℕ) → j < terms .count → getD (listed terms) j no-term ≡ getD (terms .list) j no-term
   unfolding listed

@@ -21,6 +21,8 @@ use Rattle.model.specs.declared.Term.{Term}
 use Rattle.model.proofs.Ranges.{sumℤ-equal, sumℤ-last, sumℤ-factor, within-zero, within-same, within-sums}
 use Rattle.model.proofs.Reach.{scale-positive}
 use Rattle.model.proofs.Binomial.{binomial-all, binomial-denominators}
+use Rattle.model.proofs.Convolution.{product-factored}
+use Rattle.model.proofs.Convolution as Convolution
 
 -- u ÷ m lies within a ball
 abbrev Inside : ℤ → ℕ → Ball → Type 0
@@ -52,7 +54,7 @@ brings-enclosed target term {u} {m} {c} {e} w = either (eqb (term .to) target)
     either true = w
     either false = within-zero m
 
-brings-factor : (target : ℕ) (term : Term) (a x : ℤ) → bringsℤ target term (a *ℤ x) ≡ a *ℤ bringsℤ target term x
+pub brings-factor : (target : ℕ) (term : Term) (a x : ℤ) → bringsℤ target term (a *ℤ x) ≡ a *ℤ bringsℤ target term x
 unfolding bringsℤ
 brings-factor target term a x = either (eqb (term .to) target)
   where
@@ -76,12 +78,11 @@ module _ (terms : List Term) (H : ℤ) (D : ℕ) (table : Coefficients) (orders 
   factor-enclosed zero (suc i) h = enclosed zero i h
   factor-enclosed (suc k) (suc i) h = enclosed (suc k) i h
 
-  -- C(k,l) × Y_l(f) × Y_(k-l)(g), and the sum of these over l = 0..k
   abbrev split : ℕ → ℕ → ℕ → ℕ → ℤ
-  split k f g l = pos (binomial k l) *ℤ (factorℤ D orders l f *ℤ factorℤ D orders (k - l) g)
+  split = Convolution.split D orders
 
   abbrev convolution : ℕ → ℕ → ℕ → ℤ
-  convolution k f g = sumℤ (suc k) (split k f g)
+  convolution = Convolution.convolution D orders
 
   absent-after : (m : ℕ) → 0 < m → factorℤ D orders m 0 ≡ pos 0
   unfolding factorℤ
@@ -124,14 +125,6 @@ module _ (terms : List Term) (H : ℤ) (D : ℕ) (table : Coefficients) (orders 
       pair : (l : ℕ) → l < suc k → Within (weight k *ℤ split k f (suc g) l) (D * M k * scale) (near (factor table l f .value *ℤ factor table (k - l) (suc g) .value) scale) (up (productRadius (factor table l f) (factor table (k - l) (suc g))) scale + 1)
       pair l lt = within-same (numerator l (omega arith)) (denominator l (omega arith)) (within-scaled (binomial k l) (within-rounded scale scale-positive (within-product (factor-enclosed l f (omega arith)) (factor-enclosed (k - l) (suc g) (omega arith)))))
 
-  product-factored : (k : ℕ) (term : Term) → product D orders k term ≡ term .coef *ℤ convolution k (term .first) (term .second)
-  unfolding product
-  product-factored k term =
-      sumℤ-equal (suc k) _ _ (λ l h. out (pos (binomial k l)) (term .coef) (factorℤ D orders l (term .first)) (factorℤ D orders (k - l) (term .second))) ∙ sym (sumℤ-factor (suc k) (term .coef) (split k (term .first) (term .second)))
-    where
-      out : (c a x y : ℤ) → c *ℤ a *ℤ x *ℤ y ≡ a *ℤ (c *ℤ (x *ℤ y))
-      out c a x y = simp ringℤ
-
   share-enclosed : (term : Term) → Inside (weight (suc d) *ℤ product D orders d term) (D * M d * scale * scale * scale) (share H table d term)
   unfolding share times pow
   share-enclosed term =
@@ -142,7 +135,7 @@ module _ (terms : List Term) (H : ℤ) (D : ℕ) (table : Coefficients) (orders 
 
       numerator : term .coef *ℤ (H *ℤ (weight d *ℤ convolution d (term .first) (term .second))) ≡ weight (suc d) *ℤ product D orders d term
       numerator =
-          out (term .coef) H (pos scale) (pow H d) (convolution d (term .first) (term .second)) ∙ ap (λ (z : ℤ). weight (suc d) *ℤ z) (sym (product-factored d term))
+          out (term .coef) H (pos scale) (pow H d) (convolution d (term .first) (term .second)) ∙ ap (λ (z : ℤ). weight (suc d) *ℤ z) (sym (product-factored D orders d term))
 
   pub next-enclosed : (i : ℕ) → SummandInside H D (suc d) (nextOrder terms D orders d i) (nextCoefficient terms H table d i)
   unfolding nextOrder nextCoefficient sumDenominator

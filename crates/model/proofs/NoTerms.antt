@@ -1,25 +1,29 @@
--- Document 01's case F in general: without terms a step has degree 0 and leaves the values and radii as they are. Assumes nothing.
+-- Document 01's case F in general: without terms, or where all cancel, a step has degree 0 and leaves the values and radii as they are. Assumes
+-- nothing.
 use Prim.Native.Nat.{ℕ, zero, suc, _+_, _≤_, _<_}
-use mathlib.Core.Path.{_≡_, refl, ap}
+use mathlib.Core.Path.{_≡_, refl, ap, _∙_}
 use mathlib.Core.Bool.{Bool, true}
 use mathlib.Core.List.{List, [], _∷_}
 use native.Mathlib.Omega.{arith}
 use native.Mathlib.Nat.{mul-zero, zero-mul, sub-zero}
-use lib.IntN.{ℤ, +ℤ-idl}
+use lib.IntN.{ℤ, pos, natAbs, +ℤ-idl}
 use lib.Dec.{leb}
 use lib.ListN.{length, getD, replicate}
 use borrow.Author.Tests.{le-leb}
 use Rattle.rounding.specs.Rounding.{up}
 use Rattle.rounding.proofs.Roundings.{up-is-least}
-use Rattle.model.specs.Range.{sum, sumℤ, largest, tabulate, least}
-use Rattle.model.specs.Sheet.{scale, sheetVerdict, passes, listed, termsOf, startsOf}
+use Rattle.model.specs.Range.{sum, sumℤ, largest, least}
+use Rattle.model.specs.Sheet.{scale, no-term, sheetVerdict, passes, termsOf, startsOf}
+use Rattle.model.specs.LikeTerms.{coefsLike, gathered}
 use Rattle.model.specs.Step.{Ball, no-ball, greatest, size, coefs, ratio, majorant, tailAt, degree, coefficient, coefficientsTo, Row, newBall, newRow, stepRow}
 use Rattle.model.specs.Passage.{moves, question, small, slow, most-ratio, tolerable, tolerated, advance, goOn, follow, placesNeeded, run, passage}
 use Rattle.model.specs.declared.Sheet.{Sheet}
+use Rattle.model.specs.declared.Term.{Term}
 use Rattle.model.specs.declared.Outcome.the-variants.{Accepted}
 use Rattle.model.proofs.Reach.{scale-positive}
 use Rattle.model.proofs.Invariant.{scale-le-greatest}
 use Rattle.model.proofs.Ranges.{tabulate-is}
+use Rattle.model.proofs.Gathered.{gathered-coef, gathered-nonzero}
 
 up-zero : {d : ℕ} → 0 < d → up 0 d ≡ 0
 up-zero {d} h = omega (arith, up-is-least 0 h 0 (omega arith))
@@ -85,7 +89,18 @@ unfolding follow goOn unmoved
 follow-without-terms H limit tol zero step balls s t = refl
 follow-without-terms H limit tol (suc steps) step balls s t = rw (advance-without-terms H limit tol balls s t, follow-without-terms H limit tol steps (suc step) balls s t)
 
--- a sheet without terms: where question 4 passes and the radii are within `tol`, every row is of degree 0 with the start's values and radii
-pub passage-without-terms : (sheet : Sheet) (places : ℕ) → sheetVerdict sheet ≡ passes → placesNeeded sheet ≤ places → sheet .terms .count ≡ 0 → small (startsOf sheet) ≡ true → tolerable (sheet .head .tol) (startsOf sheet) ≡ true → passage sheet places ≡ record { rows = replicate (sheet .head .steps) (unmoved (startsOf sheet)); outcome = Accepted }
-unfolding passage run termsOf listed tabulate startsOf
+-- ---- a sheet
+
+-- terms that cancel wholly: none is left
+pub cancelled : (terms : List Term) → ((t : Term) → coefsLike t terms ≡ pos 0) → gathered terms ≡ []
+cancelled terms zero-sums = go (gathered terms) (gathered-coef terms) (gathered-nonzero terms)
+  where
+    go : (left : List Term) → ((j : ℕ) → j < length left → getD left j no-term .coef ≡ coefsLike (getD left j no-term) terms) → ((j : ℕ) → j < length left → natAbs (getD left j no-term .coef) ≡ 0 → ⊥) → left ≡ []
+    go [] sums none-zero = refl
+    go (t ∷ ts) sums none-zero = absurd (none-zero 0 (omega arith) (ap natAbs (sums 0 (omega arith) ∙ zero-sums t)))
+
+-- a sheet without terms, or whose terms cancel wholly: where question 4 passes and the radii are within `tol`, every row is of degree 0 with the
+-- start's values and radii
+pub passage-without-terms : (sheet : Sheet) (places : ℕ) → sheetVerdict sheet ≡ passes → placesNeeded sheet ≤ places → gathered (termsOf sheet) ≡ [] → small (startsOf sheet) ≡ true → tolerable (sheet .head .tol) (startsOf sheet) ≡ true → passage sheet places ≡ record { rows = replicate (sheet .head .steps) (unmoved (startsOf sheet)); outcome = Accepted }
+unfolding passage run startsOf
 passage-without-terms sheet places v p none s t = rw (v, le-leb (placesNeeded sheet) places p, passage) (rw none (follow-without-terms (sheet .head .step) (sheet .head .tail) (sheet .head .tol) (sheet .head .steps) 1 (startsOf sheet) s t))

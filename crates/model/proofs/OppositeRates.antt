@@ -1,13 +1,13 @@
 -- Going back is going forward along the opposite rates: with the step and every coefficient of the other sign, a sheet has the same passage, row
 -- by row and refusal by refusal. Assumes nothing.
 use Prim.Native.Nat.{ℕ, zero, suc, _+_, _*_}
-use mathlib.Core.Bool.{Bool, true, false, _&&_}
+use mathlib.Core.Bool.{Bool, true, false, not, cond, _&&_}
 use mathlib.Core.List.{List, [], _∷_, _++_, map}
 use mathlib.Core.Path.{_≡_, refl, sym, ap, ap₂, _∙_}
 use native.Mathlib.Omega.{arith}
 use borrow.Author.Tests.{leb-true, leb-false, le-leb, lt-leb}
 use lib.Dec.{leb}
-use lib.IntN.{ℤ, pos, negsuc, negℤ, natAbs, _*ℤ_, negℤ-negℤ}
+use lib.IntN.{ℤ, pos, negsuc, negℤ, natAbs, _+ℤ_, _*ℤ_, negℤ-negℤ, negℤ-+ℤ}
 use lib.ListN.{length, getD, length-map, List·getD-map}
 use Rattle.rounding.specs.Rounding.{near, up}
 use Rattle.rounding.proofs.Integers.{neg-mulℤ, mul-negℤ, abs-neg}
@@ -15,12 +15,15 @@ use Rattle.rounding.proofs.Roundings.{near-neg}
 use Rattle.model.specs.Range.{largest}
 use Rattle.model.specs.Sheet.{scale, most-coef, no-term, ±_, within, coef-limits, inRange, stepWithin, stepVerdict, headVerdict, termVerdict, termsVerdict, sheetVerdictTo, sheetVerdict, listed, termsOf, startsOf}
 use Rattle.model.specs.Exact.{bringsℤ}
+use Rattle.model.specs.LikeTerms.{like, coefsLike, filter, summed, nonzero, gathered}
 use Rattle.model.specs.Step.{Ball, greatest, factors, brings, coefOf, coefs, size, ratio, Coefficients, times, share, nextCoefficient, coefficientsTo, newRow, stepRow}
 use Rattle.model.specs.Passage.{slow, advance, goOn, follow, placesNeeded, run, passage}
 use Rattle.model.specs.declared.Term.{Term}
 use Rattle.model.specs.declared.Sheet.{Sheet}
 use Rattle.model.proofs.Ranges.{sum-equal, sumℤ-equal, tabulate-equal, map-tabulate}
 use Rattle.model.proofs.Reach.{scale-positive}
+use Rattle.model.proofs.Like.{like-self}
+use Rattle.model.proofs.Gathered.{coefs-same}
 use Rattle.model.proofs.Verdicts.{in-order-equal}
 use Rattle.model.proofs.Passages.{passage-alike}
 
@@ -33,6 +36,36 @@ opposite term = record { to = term .to; coef = negℤ (term .coef); first = term
 getD-opposite : (terms : List Term) (j : ℕ) → getD (map opposite terms) j no-term ≡ opposite (getD terms j no-term)
 unfolding no-term
 getD-opposite terms j = List·getD-map opposite terms j no-term
+
+-- gathered: the sums have the other sign, and the same ones are 0
+coefs-like-opposite : (t : Term) (ts : List Term) → coefsLike t (map opposite ts) ≡ negℤ (coefsLike t ts)
+unfolding coefsLike like
+coefs-like-opposite t [] = refl
+coefs-like-opposite t (u ∷ us) =
+    ap₂ (λ (x y : ℤ). x +ℤ y) (share (like t u)) (coefs-like-opposite t us) ∙ sym (negℤ-+ℤ (cond (like t u) (u .coef) (pos 0)) (coefsLike t us))
+  where
+    share : (b : Bool) → cond b (negℤ (u .coef)) (pos 0) ≡ negℤ (cond b (u .coef) (pos 0))
+    share true = refl
+    share false = refl
+
+filter-opposite : (test : Term → Bool) → ((t : Term) → test (opposite t) ≡ test t) → (ts : List Term) → filter test (map opposite ts) ≡ map opposite (filter test ts)
+unfolding filter
+filter-opposite test same [] = refl
+filter-opposite test same (t ∷ ts) = rw (same t, filter-opposite test same ts) (go (test t))
+  where
+    go : (b : Bool) → cond b (opposite t ∷ map opposite (filter test ts)) (map opposite (filter test ts)) ≡ map opposite (cond b (t ∷ filter test ts) (filter test ts))
+    go true = refl
+    go false = refl
+
+summed-opposite : (ts : List Term) → summed (map opposite ts) ≡ map opposite (summed ts)
+unfolding summed like
+summed-opposite [] = refl
+summed-opposite (t ∷ ts) =
+    ap₂ (λ (c : ℤ) (us : List Term). record { to = t .to; coef = c; first = t .first; second = t .second } ∷ us) (ap (λ (z : ℤ). negℤ (t .coef) +ℤ z) (coefs-same (opposite t) t (like-self t) (map opposite ts) ∙ coefs-like-opposite t ts) ∙ sym (negℤ-+ℤ (t .coef) (coefsLike t ts))) (ap (filter (λ u. not (like t u))) (summed-opposite ts) ∙ filter-opposite (λ u. not (like t u)) (λ u. refl) (summed ts))
+
+gathered-opposite : (ts : List Term) → gathered (map opposite ts) ≡ map opposite (gathered ts)
+unfolding gathered nonzero
+gathered-opposite ts = ap (filter nonzero) (summed-opposite ts) ∙ filter-opposite nonzero (λ t. rw (abs-neg (t .coef))) (summed ts)
 
 -- ---- a step
 
@@ -138,7 +171,7 @@ module _ (sheet : Sheet) where
 
   run-opposite : run (opposite-sheet sheet) ≡ run sheet
   unfolding run startsOf
-  run-opposite = rw terms-opposite (follow-opposite (termsOf sheet) (sheet .head .step) (sheet .head .tail) (sheet .head .tol) (sheet .head .steps) 1 _)
+  run-opposite = rw (terms-opposite, gathered-opposite) (follow-opposite (gathered (termsOf sheet)) (sheet .head .step) (sheet .head .tail) (sheet .head .tol) (sheet .head .steps) 1 _)
 
   pub passage-opposite : (places : ℕ) → passage (opposite-sheet sheet) places ≡ passage sheet places
   unfolding placesNeeded

@@ -9,6 +9,7 @@ use lib.IntN.{ℤ}
 use lib.Dec.{leb}
 use lib.ListN.{length}
 use Rattle.model.specs.Sheet.{refusedStep, Verdict, passes, refuses, sheetVerdict, termsOf, startsOf}
+use Rattle.model.specs.LikeTerms.{gathered}
 use Rattle.model.specs.Step.{Ball, Row}
 use Rattle.model.specs.Passage.{Advance, moves, stops, advance, Run, refused, goOn, follow, placesNeeded, run, passage, rowsWritten}
 use Rattle.model.specs.declared.Term.{Term}
@@ -18,7 +19,8 @@ use Rattle.model.specs.declared.Refusal.the-variants.{TooFewPlaces}
 use Rattle.model.specs.declared.Outcome.{Outcome}
 use Rattle.model.specs.declared.Outcome.the-variants.{Accepted, Refused}
 use Rattle.model.proofs.Ranges.{length-tabulate}
-use Rattle.model.proofs.Rows.{Each, none, row-first, Wide}
+use Rattle.model.proofs.Lists.{Each, none, entry-first}
+use Rattle.model.proofs.Rows.{Wide}
 use Rattle.model.proofs.Taken.{quantities-stay}
 
 -- ---- what every row of a passage has
@@ -28,7 +30,7 @@ module _ (terms : List Term) (H : ℤ) (limit tol n : ℕ) (P : Row → Type 0)
     (holds : (balls : List Ball) (row : Row) → length balls ≡ n → advance terms H limit tol balls ≡ moves row → P row) where
   go-on-each : (step : ℕ) (rest : Row → Run) (balls : List Ball) → length balls ≡ n → (next : Advance) → advance terms H limit tol balls ≡ next → ((row : Row) → length (row .balls) ≡ n → Each P (rest row .rows)) → Each P (goOn next step rest .rows)
   unfolding goOn refused
-  go-on-each step rest balls l (moves row) e later = row-first (holds balls row l e) (later row (quantities-stay terms H limit tol balls e ∙ l))
+  go-on-each step rest balls l (moves row) e later = entry-first (holds balls row l e) (later row (quantities-stay terms H limit tol balls e ∙ l))
   go-on-each step rest balls l (stops r) e later = none
 
   pub follow-each : (left step : ℕ) (balls : List Ball) → length balls ≡ n → Each P (follow terms H limit tol left step balls .rows)
@@ -37,10 +39,10 @@ module _ (terms : List Term) (H : ℤ) (limit tol n : ℕ) (P : Row → Type 0)
   follow-each (suc left) step balls l =
       go-on-each step (λ row. follow terms H limit tol left (suc step) (row .balls)) balls l (advance terms H limit tol balls) refl (λ row m. follow-each left (suc step) (row .balls) m)
 
-pub run-each : (sheet : Sheet) (P : Row → Type 0) → ((balls : List Ball) (row : Row) → length balls ≡ sheet .head .n → advance (termsOf sheet) (sheet .head .step) (sheet .head .tail) (sheet .head .tol) balls ≡ moves row → P row) → Each P (run sheet .rows)
+pub run-each : (sheet : Sheet) (P : Row → Type 0) → ((balls : List Ball) (row : Row) → length balls ≡ sheet .head .n → advance (gathered (termsOf sheet)) (sheet .head .step) (sheet .head .tail) (sheet .head .tol) balls ≡ moves row → P row) → Each P (run sheet .rows)
 unfolding run startsOf
 run-each sheet P holds =
-    follow-each (termsOf sheet) (sheet .head .step) (sheet .head .tail) (sheet .head .tol) (sheet .head .n) P holds (sheet .head .steps) 1 (startsOf sheet) (length-tabulate (sheet .head .n) _)
+    follow-each (gathered (termsOf sheet)) (sheet .head .step) (sheet .head .tail) (sheet .head .tol) (sheet .head .n) P holds (sheet .head .steps) 1 (startsOf sheet) (length-tabulate (sheet .head .n) _)
 
 -- ---- what every row has that another one follows
 
@@ -72,10 +74,10 @@ module _ (terms : List Term) (H : ℤ) (limit tol n : ℕ) (P : List Ball → Ty
           joined row m left (suc step) (later row m)
       go (stops r) e later = empty
 
-pub run-earlier : (sheet : Sheet) (P : List Ball → Type 0) → ((balls : List Ball) (row : Row) → length balls ≡ sheet .head .n → advance (termsOf sheet) (sheet .head .step) (sheet .head .tail) (sheet .head .tol) balls ≡ moves row → P balls) → AllButLast (λ row. P (row .balls)) (run sheet .rows)
+pub run-earlier : (sheet : Sheet) (P : List Ball → Type 0) → ((balls : List Ball) (row : Row) → length balls ≡ sheet .head .n → advance (gathered (termsOf sheet)) (sheet .head .step) (sheet .head .tail) (sheet .head .tol) balls ≡ moves row → P balls) → AllButLast (λ row. P (row .balls)) (run sheet .rows)
 unfolding run startsOf
 run-earlier sheet P holds =
-    follow-earlier (termsOf sheet) (sheet .head .step) (sheet .head .tail) (sheet .head .tol) (sheet .head .n) P holds (sheet .head .steps) 1 (startsOf sheet) (length-tabulate (sheet .head .n) _)
+    follow-earlier (gathered (termsOf sheet)) (sheet .head .step) (sheet .head .tail) (sheet .head .tol) (sheet .head .n) P holds (sheet .head .steps) 1 (startsOf sheet) (length-tabulate (sheet .head .n) _)
 
 -- ---- how many rows a passage has
 
@@ -112,7 +114,7 @@ pub record Rows (sheet : Sheet) (run : Run) : Type 0 where
 pub rows-of-run : (sheet : Sheet) → Rows sheet (run sheet)
 unfolding run rowsWritten
 rows-of-run sheet =
-    let counts : CountsOf (sheet .head .steps) 1 (run sheet) = follow-counts (termsOf sheet) (sheet .head .step) (sheet .head .tail) (sheet .head .tol) (sheet .head .steps) 1 (startsOf sheet) in
+    let counts : CountsOf (sheet .head .steps) 1 (run sheet) = follow-counts (gathered (termsOf sheet)) (sheet .head .step) (sheet .head .tail) (sheet .head .tol) (sheet .head .steps) 1 (startsOf sheet) in
     record {
       wide = run-each sheet (λ row. length (row .balls) ≡ sheet .head .n) (λ balls row l e. quantities-stay _ _ _ _ balls e ∙ l);
       count = counted counts;

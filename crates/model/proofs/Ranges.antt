@@ -1,14 +1,14 @@
--- Laws of sums, of the largest and of lists over 0 .. n - 1: one more turn, equal or smaller summands, a factor moved in, magnitudes, enclosures, and the
--- entries of a list by its numbers. Assumes nothing.
-use Prim.Native.Nat.{ℕ, zero, suc, _+_, _*_, _≤_, _<_}
+-- Laws of sums, of the largest and of lists over 0 .. n - 1: one more turn, equal or smaller summands, their order, a factor moved in, magnitudes,
+-- enclosures, and the entries of a list by its numbers. Assumes nothing.
+use Prim.Native.Nat.{ℕ, zero, suc, _+_, _-_, _*_, _≤_, _<_}
 use mathlib.Core.List.{List, [], _∷_, _++_, map, map-append}
 use mathlib.Core.Path.{_≡_, refl, sym, ap, ap₂, _∙_, subst}
 use mathlib.Core.Logic.{_⊎_, inl, inr, ⊎-elim}
-use native.Mathlib.Nat.{eq-or-lt-of-le, mul-add, mul-zero, add-mul, zero-mul, one-mul, le-refl, le-trans, le-max-left, le-max-right, max-le}
+use native.Mathlib.Nat.{eq-or-lt-of-le, mul-add, mul-zero, add-mul, zero-mul, one-mul, sub-self, le-refl, le-trans, le-max-left, le-max-right, max-le}
 use native.Mathlib.Decide.{decLt, le-ind}
 use native.Mathlib.Numerals.{add-one}
 use native.Mathlib.Omega.{arith}
-use lib.IntN.{ℤ, pos, natAbs, _+ℤ_, _*ℤ_, zero-*ℤ, *ℤ-zero, +ℤ-idl, +ℤ-idr}
+use lib.IntN.{ℤ, pos, natAbs, _+ℤ_, _*ℤ_, zero-*ℤ, *ℤ-zero, +ℤ-idl, +ℤ-idr, +ℤ-assoc, +ℤ-comm}
 use lib.ListN.{length, getD, length-append, List·getD-append, List·getD-eq-default}
 use lib.Seq.{getD-at, ext-getD}
 use Rattle.rounding.specs.Enclosure.{Within}
@@ -84,6 +84,28 @@ pub sumℤ-single : (n i : ℕ) (f : ℕ → ℤ) → i < n → ((k : ℕ) → k
 sumℤ-single zero i f h rest = absurd (omega arith)
 sumℤ-single (suc n) i f h rest =
     ⊎-elim (λ (e : i ≡ n). sumℤ-last n f (λ k l. rest k (omega arith) (λ same. omega arith)) ∙ ap f (sym e)) (λ (l : i < n). sumℤ-suc n f ∙ ap₂ (λ (a b : ℤ). a +ℤ b) (sumℤ-single n i f l (below n rest)) (rest n (omega arith) (λ same. omega arith)) ∙ +ℤ-idr (f i)) (eq-or-lt-of-le {n = i} {m = n} (omega arith))
+
+-- ---- the first summand, and the order of the summands
+
+pub sum-first : (n : ℕ) (f : ℕ → ℕ) → sum (suc n) f ≡ f 0 + sum n (λ k. f (suc k))
+unfolding sum
+sum-first zero f = omega arith
+sum-first (suc n) f = omega (arith, sum-first n f)
+
+pub sumℤ-first : (n : ℕ) (f : ℕ → ℤ) → sumℤ (suc n) f ≡ f 0 +ℤ sumℤ n (λ k. f (suc k))
+unfolding sumℤ
+sumℤ-first zero f = +ℤ-comm (pos 0) (f 0)
+sumℤ-first (suc n) f = ap (λ (z : ℤ). z +ℤ f (suc n)) (sumℤ-first n f) ∙ +ℤ-assoc (f 0) (sumℤ n (λ k. f (suc k))) (f (suc n))
+
+pub sumℤ-reversed : (k : ℕ) (f : ℕ → ℤ) → sumℤ (suc k) f ≡ sumℤ (suc k) (λ l. f (k - l))
+unfolding sumℤ
+sumℤ-reversed zero f = refl
+sumℤ-reversed (suc k) f =
+    sumℤ-first (suc k) f ∙ ap (λ (z : ℤ). f 0 +ℤ z) (sumℤ-reversed k (λ l. f (suc l)) ∙ sumℤ-equal (suc k) _ _ (λ l h. ap f (after k l h)))
+    ∙ +ℤ-comm (f 0) (sumℤ (suc k) (λ l. f (suc k - l))) ∙ ap (λ (j : ℕ). sumℤ (suc k) (λ l. f (suc k - l)) +ℤ f j) (sym (sub-self (suc k)))
+  where
+    after : (k l : ℕ) → l < suc k → suc (k - l) ≡ suc k - l
+    after k l h = omega arith
 
 -- ---- a factor
 

@@ -8,34 +8,38 @@ use native.Mathlib.Omega.{arith}
 use lib.IntN.{ℤ, natAbs}
 use lib.ListN.{length, getD}
 use Rattle.model.specs.Sheet.{most, most-steps, refusedStep, passes, sheetVerdict, termsOf}
+use Rattle.model.specs.LikeTerms.{gathered}
 use Rattle.model.specs.Step.{Ball, no-ball, reach, greatest, Row}
 use Rattle.model.specs.Passage.{moves, advance, refused, placesNeeded, passage}
 use Rattle.model.specs.Rows.{width, written}
+use Rattle.model.specs.Trust.{no-row}
 use Rattle.model.specs.Bounds.{InBounds, Printable, RowsPrintable}
 use Rattle.model.specs.declared.Sheet.{Sheet}
 use Rattle.model.proofs.Halving.{row-sharp}
 use Rattle.model.proofs.Invariant.{greatest-le-most}
 use Rattle.model.proofs.Passages.{AllButLast, empty, run-each, run-earlier, rows-of-run, rows-of-passage, passage-either}
-use Rattle.model.proofs.Rows.{Each, none, each-at, row-written}
-use Rattle.model.proofs.SheetBounds.{bounds-of-sheet, bounds-of-step, counts-of-sheet}
+use Rattle.model.proofs.Lists.{Each, none, each-at}
+use Rattle.model.proofs.Rows.{row-written}
+use Rattle.model.proofs.SheetBounds.{bounds-of-step, counts-of-sheet}
+use Rattle.model.proofs.GatheredBounds.{bounds-of-gathered}
 use Rattle.model.proofs.Taken.{all-tolerated, Taken, step-taken, quantities-stay, degree-at-most}
 
-row-in-range : (sheet : Sheet) → sheetVerdict sheet ≡ passes → (balls : List Ball) (row : Row) → length balls ≡ sheet .head .n → advance (termsOf sheet) (sheet .head .step) (sheet .head .tail) (sheet .head .tol) balls ≡ moves row → Printable row
+row-in-range : (sheet : Sheet) → sheetVerdict sheet ≡ passes → (balls : List Ball) (row : Row) → length balls ≡ sheet .head .n → advance (gathered (termsOf sheet)) (sheet .head .step) (sheet .head .tail) (sheet .head .tol) balls ≡ moves row → Printable row
 row-in-range sheet passed balls row l e =
     record { degree = degree-at-most _ _ _ _ balls e; values = λ i h. omega (arith, value-at i h, radius-at i h, greatest-le-most bounds); radii = radius-at }
   where
-    taken : Taken (termsOf sheet) (sheet .head .step) (sheet .head .tail) (sheet .head .tol) balls row
+    taken : Taken (gathered (termsOf sheet)) (sheet .head .step) (sheet .head .tail) (sheet .head .tol) balls row
     taken = step-taken _ _ _ _ balls e
 
-    bounds : InBounds (termsOf sheet) (sheet .head .step) balls
-    bounds = bounds-of-step balls (rw l (bounds-of-sheet sheet passed)) (taken .is-small) (taken .is-slow)
+    bounds : InBounds (gathered (termsOf sheet)) (sheet .head .step) balls
+    bounds = bounds-of-step balls (rw l (bounds-of-gathered sheet passed)) (taken .is-small) (taken .is-slow)
 
     radius-at : (i : ℕ) → i < length (row .balls) → getD (row .balls) i no-ball .radius ≤ most
     radius-at i h = le-trans (all-tolerated (sheet .head .tol) (row .balls) (taken .is-tolerable) .within i h) (counts-of-sheet sheet passed .tol-high)
 
     value-at : (i : ℕ) → i < length (row .balls) → natAbs (getD (row .balls) i no-ball .value) ≤ 2 * greatest balls + getD (row .balls) i no-ball .radius
     value-at i h =
-        rw (taken .is-row) (row-sharp (termsOf sheet) (record { absent = bounds .sheet .formed }) (sheet .head .step) balls (taken .is-slow) i (sheet .head .tail) (rw (quantities-stay _ _ _ _ balls e) at h))
+        rw (taken .is-row) (row-sharp (gathered (termsOf sheet)) (record { absent = bounds .sheet .formed }) (sheet .head .step) balls (taken .is-slow) i (sheet .head .tail) (rw (quantities-stay _ _ _ _ balls e) at h))
 
 pub passage-in-range : (sheet : Sheet) (places : ℕ) → Each Printable (passage sheet places .rows)
 unfolding refused
@@ -46,14 +50,14 @@ passage-in-range sheet places =
 abbrev pub Passed : List Ball → Type 0
 Passed balls = (i : ℕ) → i < length balls → natAbs (getD balls i no-ball .value) ≤ most
 
-passed-before : (sheet : Sheet) → sheetVerdict sheet ≡ passes → (balls : List Ball) (row : Row) → length balls ≡ sheet .head .n → advance (termsOf sheet) (sheet .head .step) (sheet .head .tail) (sheet .head .tol) balls ≡ moves row → Passed balls
+passed-before : (sheet : Sheet) → sheetVerdict sheet ≡ passes → (balls : List Ball) (row : Row) → length balls ≡ sheet .head .n → advance (gathered (termsOf sheet)) (sheet .head .step) (sheet .head .tail) (sheet .head .tol) balls ≡ moves row → Passed balls
 unfolding reach
 passed-before sheet passed balls row l e i h = omega (arith, bounds .small i h)
   where
-    bounds : InBounds (termsOf sheet) (sheet .head .step) balls
+    bounds : InBounds (gathered (termsOf sheet)) (sheet .head .step) balls
     bounds =
         let taken = step-taken _ _ _ _ balls e in
-        bounds-of-step balls (rw l (bounds-of-sheet sheet passed)) (taken .is-small) (taken .is-slow)
+        bounds-of-step balls (rw l (bounds-of-gathered sheet passed)) (taken .is-small) (taken .is-slow)
 
 pub passage-earlier : (sheet : Sheet) (places : ℕ) → AllButLast (λ row. Passed (row .balls)) (passage sheet places .rows)
 unfolding refused
@@ -63,7 +67,7 @@ passage-earlier sheet places =
 -- the same of its rows as they stand in the lent buffer
 pub written-in-range : (sheet : Sheet) (lent : ℕ) (before : List ℤ) → let rows = passage sheet lent .rows in RowsPrintable (sheet .head .n) (length rows) (written rows before)
 written-in-range sheet lent before j h =
-    rw (row-written (rows-of-passage sheet lent .wide) before j h) (each-at (passage-in-range sheet lent) j h)
+    rw (row-written (rows-of-passage sheet lent .wide) before j h) (each-at no-row (passage-in-range sheet lent) j h)
 
 -- refused at the last of the most steps, or before ..
 pub passage-step : (sheet : Sheet) (lent : ℕ) → refusedStep (passage sheet lent .outcome) ≤ most-steps

@@ -13,6 +13,7 @@ use Rattle.model.specs.Step.{no-ball, Row}
 use Rattle.model.specs.Rows.{ballIn, ballsIn, parts, values-part, radii-part, width, degreePlace, partPlace, rowParts, rowPlaces, places, written, rowIn, rowsIn}
 use Rattle.model.specs.Trust.{no-row}
 use Rattle.model.proofs.Ranges.{tabulate-is, length-tabulate}
+use Rattle.model.proofs.Lists.{Each, none, entry-first, each-at}
 use Rattle.model.proofs.Stores.{sets-append}
 
 -- ---- balls in two arrays
@@ -25,19 +26,19 @@ length-balls n values radii = length-tabulate n (ballIn values radii)
 
 -- so many parts of n places each
 data Parts (n : ℕ) : ℕ → List (List ℤ) → Type 0 where
-  none : Parts n 0 []
+  no-part : Parts n 0 []
   part-first : {part : List ℤ} {count : ℕ} {later : List (List ℤ)} → length part ≡ n → Parts n count later → Parts n (suc count) (part ∷ later)
 
 parts-length : {n count : ℕ} {all : List (List ℤ)} → Parts n count all → length (flatten all) ≡ count * n
 unfolding flatten
-parts-length {n} none = sym (zero-mul n)
+parts-length {n} no-part = sym (zero-mul n)
 parts-length {n} (part-first {part = part} {count = count} {later = later} h w) =
     omega (arith, length-append part (flatten later), h, parts-length w, suc-mul count n)
 
 -- quantity i of part p
 part-entry : {n count : ℕ} {all : List (List ℤ)} → Parts n count all → (p i : ℕ) → p < count → i < n → getD (flatten all) (p * n + i) (pos 0) ≡ getD (getD all p []) i (pos 0)
 unfolding flatten
-part-entry none p i h k = absurd (omega arith)
+part-entry no-part p i h k = absurd (omega arith)
 part-entry {n} (part-first {part = part} {later = later} l w) zero i h k =
     let e : 0 * n + i ≡ i = omega (arith, zero-mul n) in
     rw e (List·getD-append part (flatten later) (pos 0) i (omega arith))
@@ -47,20 +48,10 @@ part-entry {n} (part-first {part = part} {later = later} l w) (suc p) i h k =
 
 row-parts : (row : Row) {n : ℕ} → length (row .balls) ≡ n → Parts n parts (rowParts row)
 unfolding rowParts
-row-parts row h = part-first (length-map (row .balls) _ ∙ h) (part-first (length-map (row .balls) _ ∙ h) none)
+row-parts row h = part-first (length-map (row .balls) _ ∙ h) (part-first (length-map (row .balls) _ ∙ h) no-part)
 
--- ---- what every row has
+-- ---- rows of n quantities
 
-pub data Each (P : Row → Type 0) : List Row → Type 0 where
-  none : Each P []
-  row-first : {row : Row} {rows : List Row} → P row → Each P rows → Each P (row ∷ rows)
-
-pub each-at : {P : Row → Type 0} {rows : List Row} → Each P rows → (j : ℕ) → j < length rows → P (getD rows j no-row)
-each-at none j h = absurd (omega arith)
-each-at (row-first p later) zero h = p
-each-at (row-first p later) (suc j) h = each-at later j (omega arith)
-
--- every row has n quantities
 abbrev pub Wide : ℕ → List Row → Type 0
 Wide n = Each (λ row. length (row .balls) ≡ n)
 
@@ -73,7 +64,7 @@ row-length row h = omega (arith, parts-length (row-parts row h))
 pub places-length : {n : ℕ} {rows : List Row} → Wide n rows → length (places rows) ≡ length rows * width n
 unfolding places
 places-length {n} none = sym (zero-mul (width n))
-places-length {n} (row-first {row = row} {rows = rows} h w) =
+places-length {n} (entry-first {x = row} {xs = rows} h w) =
     omega (arith, length-append (rowPlaces row) (places rows), row-length row h, places-length w, suc-mul (length rows) (width n))
 
 -- ---- rows read back
@@ -82,10 +73,10 @@ places-length {n} (row-first {row = row} {rows = rows} h w) =
 row-place : {n : ℕ} {rows : List Row} → Wide n rows → (rest : List ℤ) (j k : ℕ) → j < length rows → k < width n → getD (places rows ++ rest) (degreePlace n j + k) (pos 0) ≡ getD (rowPlaces (getD rows j no-row)) k (pos 0)
 unfolding places
 row-place none rest j k h l = absurd (omega arith)
-row-place {n} (row-first {row = row} {rows = rows} wide w) rest zero k h l =
+row-place {n} (entry-first {x = row} {xs = rows} wide w) rest zero k h l =
     let front : degreePlace n 0 + k ≡ k = omega (arith, zero-mul (width n)) in
     rw (append-assoc (rowPlaces row) (places rows) rest, front) (List·getD-append (rowPlaces row) (places rows ++ rest) (pos 0) k (omega (arith, row-length row wide)))
-row-place {n} (row-first {row = row} {rows = rows} wide w) rest (suc j) k h l =
+row-place {n} (entry-first {x = row} {xs = rows} wide w) rest (suc j) k h l =
     let behind : degreePlace n (suc j) + k ≡ length (rowPlaces row) + (degreePlace n j + k) = omega (arith, row-length row wide, suc-mul j (width n)) in
     rw (append-assoc (rowPlaces row) (places rows) rest, behind) (getD-append-add (rowPlaces row) (places rows ++ rest) (degreePlace n j + k) (pos 0) ∙ row-place w rest j k (omega arith) l)
 
@@ -98,7 +89,7 @@ module _ {n : ℕ} {rows : List Row} (w : Wide n rows) (buffer : List ℤ) (j : 
   unfolding written rowPlaces width
   part-written p i l k =
       let place : partPlace n j p i ≡ degreePlace n j + suc (p * n + i) = omega arith in
-      rw place (row-place w (drop (length (places rows)) buffer) j (suc (p * n + i)) h (omega (arith, mul-le-mul-right n l, suc-mul p n)) ∙ part-entry (row-parts (getD rows j no-row) (each-at w j h)) p i l k)
+      rw place (row-place w (drop (length (places rows)) buffer) j (suc (p * n + i)) h (omega (arith, mul-le-mul-right n l, suc-mul p n)) ∙ part-entry (row-parts (getD rows j no-row) (each-at no-row w j h)) p i l k)
 
   pub value-written : (i : ℕ) → i < n → getD (written rows buffer) (partPlace n j values-part i) (pos 0) ≡ getD (getD rows j no-row .balls) i no-ball .value
   unfolding rowParts no-ball
@@ -113,7 +104,7 @@ module _ {n : ℕ} {rows : List Row} (w : Wide n rows) (buffer : List ℤ) (j : 
   row-written =
       λ t. record {
         degree = natAbs (degree-written t);
-        balls = tabulate-is n _ no-ball (getD rows j no-row .balls) (each-at w j h) (λ i k. λ t. record { value = value-written i k t; radius = natAbs (radius-written i k t) }) t;
+        balls = tabulate-is n _ no-ball (getD rows j no-row .balls) (each-at no-row w j h) (λ i k. λ t. record { value = value-written i k t; radius = natAbs (radius-written i k t) }) t;
       }
 
 pub rows-in-written : {n : ℕ} {rows : List Row} → Wide n rows → (buffer : List ℤ) → rowsIn n (length rows) (written rows buffer) ≡ rows

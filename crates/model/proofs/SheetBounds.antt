@@ -65,8 +65,7 @@ module _ (sheet : Sheet) (ranges : SheetInRange sheet) where
   unfolding to-limits first-limits
   terms-in-bounds =
       record {
-        count = terms-at-most;
-        total = in-total;
+        summable = record { count = terms-at-most; total = in-total };
         formed = formed;
         step = step-in-range (sheet .head .step) (ranges .head .step) .1;
         to-low = λ j h. in-range _ (term-of-sheet j h .target) .0;

@@ -1,5 +1,6 @@
 -- Demand 3 of a whole passage: its rows are trusted, whatever the sheet and however many places are lent.
--- One induction over the rows; each step taken had its questions answered yes. The first of such rows are trusted too. Assumes nothing.
+-- One induction over the rows, by the gathered terms, whose exact sums are those of the terms as read; each step taken had its questions answered
+-- yes. The first of such rows are trusted too. Assumes nothing.
 use Prim.Native.Nat.{ℕ, zero, suc, _≤_, _<_, max}
 use mathlib.Core.List.{List, [], _∷_}
 use mathlib.Core.Path.{_≡_, refl, ap, ap₂, _∙_}
@@ -11,6 +12,7 @@ use lib.Seq.{getD-take, length-take-le}
 use Rattle.model.specs.Range.{tabulate}
 use Rattle.model.specs.Sheet.{scale, passes, sheetVerdict, termsOf, startsOf}
 use Rattle.model.specs.Exact.{State, exactSum}
+use Rattle.model.specs.LikeTerms.{gathered}
 use Rattle.model.specs.Step.{Ball, Row}
 use Rattle.model.specs.Passage.{Advance, moves, stops, advance, Run, refused, goOn, follow, run, passage}
 use Rattle.model.specs.Trust.{LiesWithin, Tolerated, stateAfter, no-row, NoLower, Trusted, TrustedOf}
@@ -20,7 +22,8 @@ use Rattle.model.proofs.Enclosed.{step-encloses}
 use Rattle.model.proofs.Majorant.{WellFormed}
 use Rattle.model.proofs.Passages.{passage-either}
 use Rattle.model.proofs.Ranges.{below, length-tabulate, getD-tabulate}
-use Rattle.model.proofs.SheetBounds.{bounds-of-sheet}
+use Rattle.model.proofs.GatheredRates.{rates-gathered, trusted-same}
+use Rattle.model.proofs.GatheredBounds.{bounds-of-gathered}
 use Rattle.model.proofs.Taken.{all-tolerated, Taken, step-taken}
 
 -- ---- rows, one after the other
@@ -99,7 +102,7 @@ module _ (terms : List Term) (H : ℤ) (limit tol : ℕ) (formed : WellFormed te
 pub run-trusted : (sheet : Sheet) → sheetVerdict sheet ≡ passes → TrustedOf sheet (run sheet .rows)
 unfolding TrustedOf run
 run-trusted sheet e =
-    follow-trusted (termsOf sheet) (sheet .head .step) (sheet .head .tail) (sheet .head .tol) (record { absent = bounds-of-sheet sheet e .formed }) (sheet .head .steps) 1 (startsOf sheet)
+    trusted-same (gathered (termsOf sheet)) (termsOf sheet) (rates-gathered (termsOf sheet)) (sheet .head .step) (sheet .head .tol) (startsOf sheet) (run sheet .rows) (follow-trusted (gathered (termsOf sheet)) (sheet .head .step) (sheet .head .tail) (sheet .head .tol) (record { absent = bounds-of-gathered sheet e .formed }) (sheet .head .steps) 1 (startsOf sheet))
 
 -- Demand 3, of every sheet, with any number of places lent.
 pub passage-trusted : (sheet : Sheet) (places : ℕ) → TrustedOf sheet (passage sheet places .rows)

@@ -37,6 +37,15 @@ each-passes (suc n) f e i lt =
     let both = both-pass (inOrder n f) (f n) e in
     ⊎-elim (λ (h : i ≡ n). rw h (both .1)) (λ (h : i < n). each-passes n f (both .0) i h) (eq-or-lt-of-le {n = i} {m = n} (omega arith))
 
+pass-then : {a b : Verdict} → a ≡ passes → b ≡ passes → (a then b) ≡ passes
+unfolding _then_
+pass-then p q = ap₂ (λ (earlier later : Verdict). earlier then later) p q
+
+pub all-pass : (n : ℕ) (f : ℕ → Verdict) → ((i : ℕ) → i < n → f i ≡ passes) → inOrder n f ≡ passes
+unfolding inOrder
+all-pass zero f h = refl
+all-pass (suc n) f h = pass-then (all-pass n f (below n h)) (h n (omega arith))
+
 pub in-order-equal : (n : ℕ) (f g : ℕ → Verdict) → ((i : ℕ) → i < n → f i ≡ g i) → inOrder n f ≡ inOrder n g
 unfolding inOrder
 in-order-equal zero f g h = refl
@@ -161,3 +170,14 @@ sheet-in-range sheet e =
       terms = c .0;
       term = λ j lt. term-in-range (sheet .head .n) (getD (sheet .terms .list) j no-term) (each-passes (sheet .terms .count) (λ j. termVerdict (sheet .head .n) (getD (sheet .terms .list) j no-term)) (c .1) j lt);
     }
+
+-- and every sheet that is in range in every field passes
+pub in-range-passes : (sheet : Sheet) → SheetInRange sheet → sheetVerdict sheet ≡ passes
+unfolding sheetVerdictTo headVerdict quantitiesVerdict termsVerdict termVerdict
+in-range-passes sheet r =
+    pass-then (pass-then (r .head .n) (pass-then (r .head .steps) (pass-then (r .head .step) (pass-then (r .head .tail) (r .head .tol))))) (pass-then (all-pass (sheet .head .n) _ (r .quantity)) (pass-then (r .terms) (all-pass (sheet .terms .count) _ term)))
+  where
+    term : (j : ℕ) → j < sheet .terms .count → termVerdict (sheet .head .n) (getD (sheet .terms .list) j no-term) ≡ passes
+    term j h =
+        let t = r .term j h in
+        unfold termVerdict in pass-then (t .target) (pass-then (t .coefficient) (pass-then (t .first) (t .second)))

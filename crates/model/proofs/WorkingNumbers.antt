@@ -90,7 +90,7 @@ module _ {terms : List Term} {H : ℤ} {balls : List Ball} (bounds : InBounds te
   pub term-product-fits : (j : ℕ) → j < length terms → natAbs (getD terms j no-term .coef) * reach (times H (products table k (getD terms j no-term .first) (getD terms j no-term .second))) < 2 ^ 57
   unfolding scale most total most-total
   term-product-fits j h =
-      combine (natAbs (getD terms j no-term .coef)) _ _ (greatest balls) (carried-weighed table k reaches H (scale-le-greatest balls) (getD terms j no-term) (bounds .sheet .formed j)) (term-halved j h) (scale-le-greatest balls) (greatest-le-most bounds) (le-trans (summand-le (λ l. natAbs (getD terms l no-term .coef)) (length terms) h) (bounds .sheet .total))
+      combine (natAbs (getD terms j no-term .coef)) _ _ (greatest balls) (carried-weighed table k reaches H (scale-le-greatest balls) (getD terms j no-term) (bounds .sheet .formed j)) (term-halved j h) (scale-le-greatest balls) (greatest-le-most bounds) (le-trans (summand-le (λ l. natAbs (getD terms l no-term .coef)) (length terms) h) (bounds .sheet .summable .total))
     where
       combine : (a c w g : ℕ) → 2 * (scale * scale) * (g * (a * c)) ≤ suc k * ((2 * g + 5) * w) + 5 * (scale * scale) * (g * a) → 2 * w ≤ g * (scale * scale * scale) → scale ≤ g → g ≤ most → a ≤ most-total → a * c < 2 ^ 57
       combine a c w g e f low high total =

@@ -1,6 +1,6 @@
 -- What the functions of one step ask of the terms, the step and the balls that they are handed, so that no working number leaves 64 bits. A sheet
--- that passes question 3 has it, and questions 4 and 5 give the rest (proofs/SheetBounds.antt). Then what the functions that
--- print ask of rows.
+-- that passes question 3 has it, of its terms as read and gathered (proofs/SheetBounds.antt, GatheredBounds.antt), and questions 4 and 5 give the
+-- rest. Then what the functions that print ask of rows.
 use Prim.Native.Nat.{ℕ, _*_, _≤_, _<_}
 use mathlib.Core.List.{List}
 use mathlib.Core.Path.{_≡_}
@@ -21,10 +21,15 @@ total terms = sum (length terms) (λ j. natAbs (getD terms j no-term .coef))
 unfoldable pub most-total : ℕ
 most-total = most-terms * most-coef
 
--- What a sheet's verdict says of its terms and its step, n being the number of quantities. Of the coefficients only their total is bounded.
-pub record TermsInBounds (terms : List Term) (H : ℤ) (n : ℕ) : Type 0 where
+-- the terms are few enough, and their |A| small enough in all, to be summed up in 64 bits
+pub record Summable (terms : List Term) : Type 0 where
   pub count : length terms ≤ most-terms
   pub total : total terms ≤ most-total
+
+-- What a sheet's verdict says of its terms and its step, n being the number of quantities. Of the coefficients only their total is bounded: a
+-- gathered one may pass the range of those as read.
+pub record TermsInBounds (terms : List Term) (H : ℤ) (n : ℕ) : Type 0 where
+  pub summable : Summable terms
   pub formed : (j : ℕ) → getD terms j no-term .first ≡ 0 → getD terms j no-term .second ≡ 0
   pub step : natAbs H ≤ scale
   pub to-low : (j : ℕ) → j < length terms → 1 ≤ getD terms j no-term .to

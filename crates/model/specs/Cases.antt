@@ -1,5 +1,5 @@
--- Document 01's soundings A to J, A and D with the step back, the range of each field, the order of question 3 and what else no sounding fixes, as
--- one table; then numbers as they are printed and as they are spelled, a table each. proofs/Cases.antt has a theorem for each table, that all of it
+-- Document 01's soundings A to J, A and D with the step back, like terms, the range of each field, the order of question 3 and what else no sounding
+-- fixes, as one table; then numbers as they are printed and as they are spelled, a table each. proofs/Cases.antt has a theorem for each table, that all of it
 -- holds.
 use Prim.Native.Nat.{ℕ}
 use Prim.Native.Char.{code}
@@ -11,8 +11,9 @@ use lib.IntN.{ℤ, pos, negsuc, negℤ, _+ℤ_, _-ℤ_}
 use lib.ListN.{length, take, drop, replicate}
 use Rattle.rounding.specs.Rounding.{near, up}
 use Rattle.model.specs.Range.{bytes}
-use Rattle.model.specs.Sheet.{most-steps, result, Gives, within, n-limits, steps-limits, stepWithin, tail-limits, tol-limits, start-limits, radius-limits, terms-limits, to-limits, coef-limits, first-limits, second-limits, quantitiesHeld, termsHeld}
+use Rattle.model.specs.Sheet.{most-steps, result, Gives, within, n-limits, steps-limits, stepWithin, tail-limits, tol-limits, start-limits, radius-limits, terms-limits, to-limits, coef-limits, first-limits, second-limits, quantitiesHeld, termsHeld, termsOf}
 use Rattle.model.specs.Reading.{Spelled, spelled, wrong, natural, signed, readSheetTo, readSheet}
+use Rattle.model.specs.LikeTerms.{gathered}
 use Rattle.model.specs.Step.{Row}
 use Rattle.model.specs.Passage.{passage}
 use Rattle.model.specs.Rows.{written}
@@ -21,6 +22,7 @@ use Rattle.model.specs.declared.Outcome.the-variants.{Accepted}
 use Rattle.model.specs.declared.Start.the-variants.{Reading, Missing}
 use Rattle.model.specs.declared.Quantity.{Quantity}
 use Rattle.model.specs.declared.Sheet.{Sheet}
+use Rattle.model.specs.declared.Term.{Term}
 
 -- a sheet's text was read as a sheet
 unfoldable pub WasRead : String → Type 0
@@ -44,6 +46,8 @@ pub data Case : Type 0 where
   lent : String → ℕ → ℕ → Case
   -- a sheet is read, and a lent buffer that held the one list holds the other after its passage
   leaves : String → List ℤ → List ℤ → Case
+  -- a sheet is read, and its terms are these
+  reads : String → List Term → Case
   -- a sheet of one quantity and one term is read, and 0 stands past both
   alone : String → Case
   -- a text of so many letters is refused by this number, before step 1
@@ -52,6 +56,8 @@ pub data Case : Type 0 where
   takes : ℕ → String → ℕ → Case
   -- a sheet given as numbers, with no places lent, is refused by this number, before step 1
   judged : Sheet → ℕ → Case
+  -- the one list of terms is gathered into the other
+  gathers : List Term → List Term → Case
   -- a range has these ends, and the numbers next to them are outside
   spans : (ℤ → Bool) → ℤ → ℤ → Case
   nearIs : ℤ → ℕ → ℤ → Case
@@ -67,6 +73,7 @@ Holds (ends sheet number step) = WasRead sheet × Gives (runOf (bytes sheet) .ou
 Holds (lent sheet places number) = WasRead sheet × Gives (passage (readSheet (bytes sheet) .sheet) places .outcome) number 0
 Holds (leaves sheet before after) =
     WasRead sheet × (written (passage (readSheet (bytes sheet) .sheet) (length before) .rows) before ≡ after)
+Holds (reads sheet terms) = WasRead sheet × (termsOf (readSheet (bytes sheet) .sheet) ≡ terms)
 Holds (alone sheet) =
     let read = readSheet (bytes sheet) .sheet in
     WasRead sheet
@@ -75,6 +82,7 @@ Holds (alone sheet) =
 Holds (garbled count number) = Gives (runOf (replicate count (code "n")) .outcome) number 0
 Holds (takes high sheet number) = result (readSheetTo high (bytes sheet) .outcome) ≡ number
 Holds (judged sheet number) = Gives (passage sheet 0 .outcome) number 0
+Holds (gathers terms into) = gathered terms ≡ into
 Holds (spans range low high) =
     (map range (low ∷ high ∷ []) ≡ true ∷ true ∷ []) × (map range ((low -ℤ pos 1) ∷ (high +ℤ pos 1) ∷ []) ≡ false ∷ false ∷ [])
 Holds (nearIs n d z) = near n d ≡ z
@@ -94,9 +102,13 @@ sheetText steps step tail tol start radius terms =
 unfoldable pub none : String
 none = "0\n"
 
+-- a term: its target, its coefficient and its factors
+unfoldable pub termText : String → String → String → String → String
+termText to coef first second = "to=" & to & "\ncoef=" & coef & "\nfirst=" & first & "\nsecond=" & second & "\n"
+
 -- one term with these factors, its coefficient one whole
 unfoldable pub one : String → String → String
-one first second = "1\nto=1\ncoef=16777216\nfirst=" & first & "\nsecond=" & second & "\n"
+one first second = "1\n" & termText "1" "16777216" first second
 
 -- a reading with a radius
 unfoldable pub reading : ℕ → ℕ → Quantity
@@ -125,11 +137,31 @@ two step tol =
     "n=2\nsteps=2\nstep=" & step & "\ntail=349526\ntol=" & tol & "\nstart=16777216\nradius=3\nstart=8388608\nradius=5\nterms=2\n"
     & "to=1\ncoef=16777216\nfirst=2\nsecond=0\nto=2\ncoef=-16777216\nfirst=1\nsecond=2\n"
 
+-- sounding A with these terms, and its answer with its own, x' = x × x
+unfoldable pub A : String → String
+A terms = sheetText "1" "4194304" "349526" "349534" "16777216" "0" terms
+
+unfoldable pub A-answer : String
+A-answer = "row=1\ndegree=2\nvalue=22020096\nradius=349534\nresult=0\nat=0\n"
+
+-- terms on x × x with these coefficients
+unfoldable pub squares : List String → String
+squares [] = ""
+squares (coef ∷ coefs) = termText "1" coef "1" "1" & squares coefs
+
+-- two quantities of one whole, and then the terms
+unfoldable pub wholes : String → String
+wholes terms = "n=2\nsteps=1\nstep=4194304\ntail=349526\ntol=349534\nstart=16777216\nradius=0\nstart=16777216\nradius=0\nterms=" & terms
+
+-- a term given as numbers
+unfoldable pub term : ℕ → ℤ → ℕ → ℕ → Term
+term to coef first second = record { to = to; coef = coef; first = first; second = second }
+
 -- the table
 unfoldable pub cases : List Case
 cases =
     -- A
-    prints (sheetText "1" "4194304" "349526" "349534" "16777216" "0" square) "row=1\ndegree=2\nvalue=22020096\nradius=349534\nresult=0\nat=0\n"
+    prints (A square) A-answer
     -- B
     ∷ opens (sheetText "1" "4194304" "349525" "87393" "16777216" "0" square) 3 (pos 22282240) 87393
     -- C
@@ -229,6 +261,23 @@ cases =
     ∷ judged (given 1 (pos 1) 1 (missing 0 ∷ []) 1) 4
     ∷ judged (given 1 (pos 1) 1 (reading 0 0 ∷ []) 1) 3
     ∷ judged (given 1 (pos 1) 1 (reading 0 0 ∷ []) 0) 5
+    -- like terms: two that cancel wholly; two that nearly do, of which the first alone is refused; all are added before any drops out; a lone 0; the
+    -- same factors in either order
+    ∷ prints (A ("2\n" & squares ("16777216" ∷ "-16777216" ∷ []))) "row=1\ndegree=0\nvalue=16777216\nradius=0\nresult=0\nat=0\n"
+    ∷ prints (A ("2\n" & squares ("268435456" ∷ "-251658240" ∷ []))) A-answer
+    ∷ prints (A ("1\n" & squares ("268435456" ∷ []))) "result=7\nat=1\n"
+    ∷ prints (A ("3\n" & squares ("5" ∷ "-5" ∷ "16777216" ∷ []))) A-answer
+    ∷ prints (A ("2\n" & termText "1" "0" "1" "0" & termText "1" "16777216" "1" "1")) A-answer
+    ∷ prints (A ("2\n" & termText "1" "16777216" "1" "1" & termText "1" "0" "1" "0")) A-answer
+    ∷ prints (wholes ("2\n" & termText "1" "16777216" "1" "2" & termText "1" "-16777216" "2" "1")) "row=1\ndegree=0\nvalue=16777216\nradius=0\nvalue=16777216\nradius=0\nresult=0\nat=0\n"
+    -- a sum past the range of a coefficient is no refusal; the sheet keeps the terms as read
+    ∷ prints (sheetText "1" "131072" "349526" "349642" "16777216" "0" ("2\n" & squares ("268435456" ∷ "268435456" ∷ []))) "row=1\ndegree=2\nvalue=22020096\nradius=349642\nresult=0\nat=0\n"
+    ∷ reads (wholes ("3\n" & termText "1" "5" "1" "2" & termText "2" "0" "2" "0" & termText "1" "-5" "2" "1")) (term 1 (pos 5) 1 2 ∷ term 2 (pos 0) 2 0 ∷ term 1 (negℤ (pos 5)) 2 1 ∷ [])
+    -- each sum stands in the place of the earliest, with its factors in that one's order; another target, another factor is not like; a sum past the range
+    ∷ gathers (term 1 (pos 5) 1 2 ∷ term 2 (pos 7) 1 2 ∷ term 1 (negℤ (pos 5)) 2 1 ∷ term 1 (pos 3) 2 1 ∷ []) (term 1 (pos 3) 1 2 ∷ term 2 (pos 7) 1 2 ∷ [])
+    ∷ gathers (term 1 (pos 5) 1 1 ∷ term 1 (pos 6) 1 2 ∷ term 1 (pos 0) 2 0 ∷ term 1 (pos 7) 2 2 ∷ []) (term 1 (pos 5) 1 1 ∷ term 1 (pos 6) 1 2 ∷ term 1 (pos 7) 2 2 ∷ [])
+    ∷ gathers (term 1 (pos 5) 1 1 ∷ term 1 (negℤ (pos 5)) 1 1 ∷ []) []
+    ∷ gathers (term 1 (pos 268435456) 0 0 ∷ term 1 (pos 268435456) 0 0 ∷ []) (term 1 (pos 536870912) 0 0 ∷ [])
     ∷ []
 
 -- ---- numbers, as they are printed

@@ -2,6 +2,7 @@ pub mod Range
 pub mod Sheet
 pub mod Reading
 pub mod Exact
+pub mod LikeTerms
 pub mod Step
 pub mod Rows
 pub mod Passage

@@ -8,6 +8,7 @@ use lib.IntN.{ℤ}
 use lib.ListN.{length, getD}
 use Rattle.model.specs.Range.{every}
 use Rattle.model.specs.Sheet.{number, most, sheetVerdict, passes, refuses, termsOf, startsOf}
+use Rattle.model.specs.LikeTerms.{gathered}
 use Rattle.model.specs.Step.{Ball, no-ball, reach, greatest, ratio, Row, stepRow}
 use Rattle.model.specs.Rows.{width, written}
 use Rattle.model.specs.declared.Term.{Term}
@@ -88,9 +89,9 @@ module _ (terms : List Term) (H : ℤ) (limit tol : ℕ) where
 unfoldable pub placesNeeded : Sheet → ℕ
 placesNeeded sheet = sheet .head .steps * width (sheet .head .n)
 
--- all steps of a sheet
+-- all steps of a sheet, by its gathered terms
 unfoldable pub run : Sheet → Run
-run sheet = follow (termsOf sheet) (sheet .head .step) (sheet .head .tail) (sheet .head .tol) (sheet .head .steps) 1 (startsOf sheet)
+run sheet = follow (gathered (termsOf sheet)) (sheet .head .step) (sheet .head .tail) (sheet .head .tol) (sheet .head .steps) 1 (startsOf sheet)
 
 -- the passage of a sheet, with so many places lent
 unfoldable pub passage : Sheet → ℕ → Run

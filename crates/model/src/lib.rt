@@ -120,6 +120,18 @@ pub struct ReadSheet {
     pub sheet: Sheet,
 }
 
+// What stands past the terms that are counted.
+pub fn no_term() -> Term
+    ensures { λ r. ⌜ r ≡ sheet.no-term ⌝ }
+{
+    Term {
+        to: 0,
+        coef: 0,
+        first: 0,
+        second: 0,
+    }
+}
+
 // A refusal's number in documents 01 and 02.
 pub fn number(refusal: Refusal) -> u64
     ensures { λ r. ⌜ r ≡ sheet.number refusal ⌝ }
