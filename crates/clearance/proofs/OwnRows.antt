@@ -25,7 +25,8 @@ use Rattle.model.specs.declared.Refusal.the-variants.{OutOfRange, TooFewPlaces,
 use Rattle.model.specs.declared.Sheet.{Sheet}
 use Rattle.model.proofs.Passages.{rows-of-passage, passage-refused}
 use Rattle.model.proofs.RowRange.{passage-in-range, passage-few, passage-fits}
-use Rattle.model.proofs.Rows.{Wide, each-at, places-length, row-written, written-length, value-written, radius-written}
+use Rattle.model.proofs.Lists.{each-at}
+use Rattle.model.proofs.Rows.{Wide, places-length, row-written, written-length, value-written, radius-written}
 use Rattle.model.proofs.Ranges.{tabulate-is}
 use Rattle.model.proofs.Tests.{every-all}
 use Rattle.model.proofs.Verdicts.{natural-passes, signed-passes}
@@ -52,14 +53,14 @@ module _ (sheet : Sheet) (before : List ℤ) where
   wide = rows-of-passage sheet (length before) .wide
 
   in-range : (j : ℕ) → j < length rows → Printable (getD rows j no-row)
-  in-range = each-at (passage-in-range sheet (length before))
+  in-range = each-at no-row (passage-in-range sheet (length before))
 
   row-passes : (j : ℕ) → j < length rows → rowWithin (sheet .head .n) (written rows before) j ≡ true
   unfolding rowWithin row-value-limits row-radius-limits most
   row-passes j h = rw (every-all _ (sheet .head .n) values, every-all _ (sheet .head .n) radii)
     where
       quantity : {i : ℕ} → i < sheet .head .n → i < length (getD rows j no-row .balls)
-      quantity l = rw (each-at wide j h) l
+      quantity l = rw (each-at no-row wide j h) l
 
       values : (i : ℕ) → i < sheet .head .n → within row-value-limits (getD (written rows before) (partPlace (sheet .head .n) j values-part i) (pos 0)) ≡ true
       values i l = rw (value-written wide before j h i l) (signed-passes most-place _ (omega (arith, in-range j h .values i (quantity l))))

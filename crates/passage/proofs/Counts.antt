@@ -2,10 +2,14 @@
 use mathlib.Core.Path.{_≡_}
 use native.Mathlib.Omega.{arith}
 use Rattle.model.specs.Sheet.{scale, passes, sheetVerdict, verdictOutcome, listed, termsOf}
+use Rattle.model.specs.LikeTerms.{gathered}
+use Rattle.model.specs.Bounds.{Summable}
 use Rattle.model.specs.declared.Sheet.{Sheet}
+use Rattle.model.specs.declared.Terms.{Terms}
 use Rattle.model.specs.declared.Outcome.{Outcome}
 use Rattle.model.specs.declared.Outcome.the-variants.{Accepted}
 use Rattle.model.proofs.SheetBounds.{Counts, counts-of-sheet, bounds-of-sheet}
+use Rattle.model.proofs.GatheredBounds.{bounds-of-gathered}
 use Rattle.taylor.specs.Step.{CanStep}
 use Rattle.verdict.proofs.Verdicts.{passes-as}
 
@@ -14,6 +18,17 @@ pub passed : (sheet : Sheet) {result : Outcome} → result ≡ verdictOutcome (s
 passed sheet is e = let p = passes-as (sheetVerdict sheet) is e in (counts-of-sheet sheet p, p)
 
 -- what each of its steps asks
-pub can-step : (sheet : Sheet) → Counts sheet → sheetVerdict sheet ≡ passes → CanStep (sheet .head) (listed (sheet .terms))
+pub can-step : (sheet : Sheet) → Counts sheet → sheetVerdict sheet ≡ passes → (terms : Terms) → listed terms ≡ gathered (listed (sheet .terms)) → CanStep (sheet .head) (listed terms)
 unfolding termsOf scale
-can-step sheet counts p = record { bounds = bounds-of-sheet sheet p; room = counts .n-high; tail-low = counts .tail-low; tail-high = omega (arith, counts .tail-high) }
+can-step sheet counts p terms is =
+    record {
+      bounds = rw is (bounds-of-gathered sheet p);
+      room = counts .n-high;
+      tail-low = counts .tail-low;
+      tail-high = omega (arith, counts .tail-high);
+    }
+
+-- and what gathering asks
+pub can-gather : (sheet : Sheet) → sheetVerdict sheet ≡ passes → Summable (listed (sheet .terms))
+unfolding termsOf
+can-gather sheet p = bounds-of-sheet sheet p .summable

@@ -1,17 +1,21 @@
 -- The promise of a passage, by the way that it ends; and demand 3 of the rows that stand in the buffer. Assumes nothing.
-use Prim.Native.Nat.{_≤_, _<_}
+use Prim.Native.Nat.{ℕ, suc, _≤_, _<_}
 use mathlib.Core.Path.{_≡_, ap}
 use mathlib.Core.List.{List}
+use native.Mathlib.Omega.{arith}
 use lib.IntN.{ℤ}
-use lib.ListN.{length}
-use Rattle.model.specs.Sheet.{result, refusedStep, Gives, passes, refuses, sheetVerdict}
-use Rattle.model.specs.Passage.{placesNeeded, run, passage, refused, Kept}
-use Rattle.model.specs.Rows.{places, written}
+use lib.ListN.{length, getD}
+use Rattle.model.specs.Sheet.{result, refusedStep, Gives, passes, refuses, sheetVerdict, termsOf, startsOf}
+use Rattle.model.specs.Exact.{State}
+use Rattle.model.specs.Passage.{placesNeeded, run, passage, refused, rowsWritten, Kept}
+use Rattle.model.specs.Rows.{places, written, rowIn, rowsIn}
+use Rattle.model.specs.Trust.{LiesWithin, Tolerated, stateAfter, no-row, NoLower, Trusted, TrustedOf}
 use Rattle.model.specs.declared.Sheet.{Sheet}
 use Rattle.model.specs.declared.Refusal.{Refusal}
 use Rattle.model.specs.declared.Refusal.the-variants.{TooFewPlaces}
 use Rattle.model.specs.declared.Outcome.{Outcome}
 use Rattle.model.specs.declared.Outcome.the-variants.{Refused}
+use Rattle.model.proofs.Ranges.{length-tabulate}
 use Rattle.model.proofs.Rows.{rows-in-written}
 use Rattle.model.proofs.Passages.{rows-of-passage, passage-refused, passage-too-few-places, passage-runs}
 use Rattle.model.proofs.Trusted.{passage-trusted}
@@ -34,6 +38,17 @@ module _ (sheet : Sheet) (buffer : List ℤ) where
   kept-run e room f =
       let runs = passage-runs sheet (length buffer) e room in
       record { answer = rw runs (f .answer); buffer = rw runs (f .buffer) }
+
+-- What demand 3 says of the rows in the buffer: from every start within the radii, by any degrees no lower than the printed ones, the exact state
+-- by the sheet's terms as read lies within each written row's radii of its values, and these are at most the tolerance.
+pub trusted-says : (sheet : Sheet) (after : List ℤ) (outcome : Outcome) → TrustedRows sheet after outcome →
+    let count = rowsWritten sheet outcome in
+    let rows = rowsIn (sheet .head .n) count after in
+    (state : State) → LiesWithin (startsOf sheet) state → (degrees : List ℕ) → NoLower degrees rows → (j : ℕ) → j < count →
+    LiesWithin (getD rows j no-row .balls) (stateAfter (termsOf sheet) (sheet .head .step) degrees state (suc j)) × Tolerated (sheet .head .tol) (getD rows j no-row .balls)
+unfolding TrustedRows TrustedOf Trusted rowsIn
+trusted-says sheet after outcome trusted state within degrees lower j h =
+    trusted state within degrees lower j (omega (arith, length-tabulate (rowsWritten sheet outcome) (rowIn (sheet .head .n) after)))
 
 kept-trusted : (sheet : Sheet) {before after : List ℤ} {outcome : Outcome} → Kept (passage sheet (length before)) before after outcome → TrustedRows sheet after outcome
 unfolding TrustedRows

@@ -5,6 +5,7 @@ use mathlib.Core.List.{List, []}
 use lib.IntN.{ℤ}
 use lib.ListN.{length, getD}
 use Rattle.model.specs.Sheet.{Verdict, passes, refuses, sheetVerdict, termsOf, startsOf}
+use Rattle.model.specs.LikeTerms.{gathered}
 use Rattle.model.specs.Step.{no-ball, Row}
 use Rattle.model.specs.Rows.{ballIn, ballsIn, ballsOf}
 use Rattle.model.specs.Passage.{Advance, moves, stops, advanceNumber as numberMeant, advance, Run, goOn, follow, run}
@@ -75,10 +76,10 @@ module _ (sheet : Sheet) (balls : List Ball) where
   unfolding stepOf
   step-of-refused e = rw (e, stepOf)
 
-  pub step-of-passing : sheetVerdict sheet ≡ passes → stepOf sheet balls ≡ advance (termsOf sheet) (sheet .head .step) (sheet .head .tail) (sheet .head .tol) balls
+  pub step-of-passing : sheetVerdict sheet ≡ passes → stepOf sheet balls ≡ advance (gathered (termsOf sheet)) (sheet .head .step) (sheet .head .tail) (sheet .head .tol) balls
   unfolding stepOf
   step-of-passing e =
-      ap (λ (verdict : Verdict). elim verdict [ refuses r ↦ stops r | passes ↦ advance (termsOf sheet) (sheet .head .step) (sheet .head .tail) (sheet .head .tol) balls ]) e
+      ap (λ (verdict : Verdict). elim verdict [ refuses r ↦ stops r | passes ↦ advance (gathered (termsOf sheet)) (sheet .head .step) (sheet .head .tail) (sheet .head .tol) balls ]) e
 
 -- ---- a passage, step by step
 
@@ -92,6 +93,6 @@ pub run-is-stepwise : (sheet : Sheet) → sheetVerdict sheet ≡ passes → run 
 unfolding run stepwise follow
 run-is-stepwise sheet e = go (sheet .head .steps) 1 (startsOf sheet)
   where
-    go : (left step : ℕ) (balls : List Ball) → follow (termsOf sheet) (sheet .head .step) (sheet .head .tail) (sheet .head .tol) left step balls ≡ stepwise sheet left step balls
+    go : (left step : ℕ) (balls : List Ball) → follow (gathered (termsOf sheet)) (sheet .head .step) (sheet .head .tail) (sheet .head .tol) left step balls ≡ stepwise sheet left step balls
     go zero step balls = refl
     go (suc left) step balls = λ t. goOn (sym (step-of-passing sheet balls e) t) step (λ row. go left (suc step) (row .balls) t)

@@ -4,6 +4,7 @@ use mathlib.Core.List.{List}
 use lib.IntN.{ℤ}
 use lib.ListN.{length}
 use Rattle.model.specs.Sheet.{most-steps, passes, refuses, sheetVerdict, termsOf}
+use Rattle.model.specs.LikeTerms.{gathered}
 use Rattle.model.specs.Passage.{Advance, stops, advance, rowsWritten}
 use Rattle.model.specs.Rows.{width, rowsIn}
 use Rattle.model.specs.Trust.{TrustedOf}
@@ -26,10 +27,10 @@ unfoldable pub TrustedRows : Sheet → List ℤ → Outcome → Type 0
 TrustedRows sheet after outcome =
     TrustedOf sheet (rowsIn (sheet .head .n) (rowsWritten sheet outcome) after)
 
--- One step of a sheet, from any values and radii: the refusal of its fields first, and then the step's own questions.
+-- One step of a sheet by its gathered terms, from any values and radii: the refusal of its fields first, and then the step's own questions.
 unfoldable pub stepOf : Sheet → List Ball → Advance
 stepOf sheet balls =
     elim (sheetVerdict sheet) [
       | refuses r ↦ stops r
-      | passes ↦ advance (termsOf sheet) (sheet .head .step) (sheet .head .tail) (sheet .head .tol) balls
+      | passes ↦ advance (gathered (termsOf sheet)) (sheet .head .step) (sheet .head .tail) (sheet .head .tol) balls
     ]

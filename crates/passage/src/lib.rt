@@ -22,6 +22,7 @@ use taylor::Advance;
 use taylor::Stepped;
 use taylor::sums_of;
 use taylor::take_step;
+use terms::gather;
 use verdict::verdict;
 
 // A start's number of units. Where there is no reading the sheet is refused before this is asked.
@@ -84,8 +85,8 @@ fn run_steps(head: Head, terms: Terms, start: Balls, rows: &mut [i64]) -> Outcom
     Outcome::Accepted
 }
 
-// Runs the passage of a sheet given as numbers. Refused by 3, 4 or 5, it leaves the buffer as it is; refused at a step, it
-// has written the rows before that step.
+// Runs the passage of a sheet given as numbers, by its gathered terms. Refused by 3, 4 or 5, it leaves the buffer as it
+// is; refused at a step, it has written the rows before that step.
 pub fn run(sheet: Sheet, rows: &mut [i64]) -> Outcome
     ensures kept { λ r. ⌜ passage.Kept (passage.passage sheet (length (now (rows .entry)))) (now (rows .entry)) (now (rows .exit)) r ⌝ }
     ensures trusted { λ r. ⌜ TrustedRows sheet (now (rows .exit)) r ⌝ }
@@ -99,8 +100,8 @@ pub fn run(sheet: Sheet, rows: &mut [i64]) -> Outcome
     if rows.len() < head.steps * width(head.n) {
         return Outcome::Refused(Refusal::TooFewPlaces, 0);
     }
-    let terms = sheet.terms;
     let start = starts_of(sheet);
+    let terms = gather(sheet.terms);
     run_steps(head, terms, start, rows)
 }
 
@@ -114,8 +115,8 @@ pub fn rows_written(sheet: Sheet, outcome: Outcome) -> usize
     }
 }
 
-// One step of the sheet from `start`. A sheet that is refused by 3 or 4 gives that refusal, and a refused step leaves the
-// values and radii that it started from.
+// One step of the sheet from `start`, by its gathered terms. A sheet that is refused by 3 or 4 gives that refusal, and a
+// refused step leaves the values and radii that it started from.
 pub fn step(sheet: Sheet, start: Balls) -> Stepped
     ensures whole { λ r. ⌜ r ≡ answered start (stepOf sheet (ballsOf (sheet .head .n) start)) ⌝ }
     ensures numbered { λ r. ⌜ Numbered (r .advance) (stepOf sheet (ballsOf (sheet .head .n) start)) ⌝ }
@@ -128,7 +129,7 @@ pub fn step(sheet: Sheet, start: Balls) -> Stepped
         };
     }
     let head = sheet.head;
-    let terms = sheet.terms;
+    let terms = gather(sheet.terms);
     let sums = sums_of(head.n, terms);
     let mut values = [0i64; PLACES];
     let mut reaches = [0u64; PLACES];

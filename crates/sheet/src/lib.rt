@@ -3,7 +3,7 @@
 ghost use mathlib.Core.Path.{_≡_};
 ghost use Prim.Native.Nat.{_≤_};
 ghost use Rattle.model.specs.Reading as model;
-ghost use Rattle.model.specs.Sheet.{most-quantities, result, Gives, no-head, no-quantity, no-term};
+ghost use Rattle.model.specs.Sheet.{most-quantities, result, Gives, no-head, no-quantity};
 ghost use Rattle.lines.specs.Places.{rest};
 ghost use Rattle.lines.specs.Fields.{wholeRead};
 ghost use Rattle.sheet.specs.Parts.{headRead, startRead, quantityRead, quantitiesRead, termRead, termsRead};
@@ -26,6 +26,7 @@ use model::Sheet;
 use model::Start;
 use model::Term;
 use model::Terms;
+use model::no_term;
 
 // What the lines above the quantities hold, or their first refusal.
 enum HeadLines {
@@ -219,18 +220,6 @@ fn read_term(text: &[u8], n: usize, from: Cursor) -> TermLines
         },
         end,
     )
-}
-
-// What stands past the last term.
-fn no_term() -> Term
-    ensures { λ r. ⌜ r ≡ no-term ⌝ }
-{
-    Term {
-        to: 0,
-        coef: 0,
-        first: 0,
-        second: 0,
-    }
 }
 
 // The terms of n quantities: first how many there are.

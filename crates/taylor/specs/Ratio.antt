@@ -6,11 +6,10 @@ use lib.IntN.{ℤ, natAbs}
 use lib.ListN.{getD}
 use Rattle.rounding.specs.Rounding.{up}
 use Rattle.model.specs.Range.{largest}
-use Rattle.model.specs.Sheet.{scale, most, most-quantities, most-terms, listed}
+use Rattle.model.specs.Sheet.{scale, most, most-quantities}
 use Rattle.model.specs.Step.{coefs}
-use Rattle.model.specs.Bounds.{total, most-total}
+use Rattle.model.specs.Bounds.{most-total}
 use Rattle.model.specs.declared.Term.{Term}
-use Rattle.model.specs.declared.Terms.{Terms}
 
 -- a term has no factor, one or two: so many sums has a target
 abbrev pub counts : ℕ
@@ -33,12 +32,7 @@ pub record Reaching (G : ℕ) : Type 0 where
   pub low : scale ≤ G
   pub high : G ≤ most
 
--- |A| can be summed up over the terms in 64 bits
-pub record Summable (terms : Terms) : Type 0 where
-  pub few : terms .count ≤ most-terms
-  pub in-total : total (listed terms) ≤ most-total
-
--- and the ratio of n quantities worked out, from G and the sums
+-- what the ratio of n quantities is worked out from: G and the sums
 pub record Sized (n G : ℕ) (sums : List ℕ) : Type 0 where
   pub few : n ≤ most-quantities
   pub bounded : Bounded n sums

@@ -6,7 +6,8 @@ ghost use Rattle.model.specs.Sheet.{scale, most, «most-quantities», listed};
 ghost use Rattle.model.specs.Range.{largest};
 ghost use Rattle.model.specs.Step as rule;
 ghost use Rattle.model.specs.Rows.{ballIn, ballsIn};
-ghost use Rattle.taylor.specs.Ratio.{SumsOf, Summable, Sized, sizeBy, ratioBy};
+ghost use Rattle.model.specs.Bounds.{Summable};
+ghost use Rattle.taylor.specs.Ratio.{SumsOf, Sized, sizeBy, ratioBy};
 use model::MOST_QUANTITIES;
 use model::SCALE;
 use model::Term;
@@ -75,7 +76,7 @@ fn coef_of(target: usize, count: usize, term: Term) -> u64
 
 // Z0, Z1 or Z2: the sum of |A| over the target's terms with so many factors.
 fn coefs(target: usize, count: usize, terms: Terms) -> u64
-    requires { ⌜ Summable terms ⌝ }
+    requires { ⌜ Summable (listed terms) ⌝ }
     ensures { λ r. ⌜ r ≡ rule.coefs (listed terms) target count ⌝ }
 {
     let mut sum = 0;
@@ -92,7 +93,7 @@ fn coefs(target: usize, count: usize, terms: Terms) -> u64
 // Z0, Z1 and Z2 of each of n targets, which are the same at every step of a passage.
 pub fn sums_of(n: usize, terms: Terms) -> [u64; SUMS]
     requires { ⌜ n ≤ most-quantities ⌝ }
-    requires { ⌜ Summable terms ⌝ }
+    requires { ⌜ Summable (listed terms) ⌝ }
     ensures { λ r. ⌜ SumsOf (listed terms) n r ⌝ }
 {
     let mut sums = [0u64; SUMS];

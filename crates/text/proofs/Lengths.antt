@@ -23,7 +23,8 @@ use Rattle.model.specs.declared.Outcome.the-variants.{Accepted, Refused}
 use Rattle.model.specs.declared.Refusal.{Refusal}
 use Rattle.model.specs.declared.Refusal.the-variants.{Oversized, Misspelt, OutOfRange, NoReading, TooFewPlaces, TooLarge, StepTooLong, Intolerable, QueryOutOfRange, RowOutOfRange}
 use Rattle.model.proofs.Ranges.{getD-tabulate}
-use Rattle.model.proofs.Rows.{Each, none, row-first, Wide}
+use Rattle.model.proofs.Lists.{Each, none, entry-first}
+use Rattle.model.proofs.Rows.{Wide}
 use Rattle.model.proofs.Passages.{AllButLast, empty, last, earlier}
 use Rattle.model.proofs.RowRange.{Passed}
 use Rattle.decimal.specs.Pieces.{Put, Room}
@@ -104,10 +105,10 @@ length-row digits number row l h range values =
 length-rows : (n number : ℕ) {rows : List Row} → Wide n rows → Each Printable rows → AllButLast (λ row. Passed (row .balls)) rows → number + length rows ≤ suc most-steps → length (rowsText number rows) ≤ length rows * most-row passed-digits n + n
 unfolding rowsText most
 length-rows n number none none empty h = omega arith
-length-rows n number (row-first {row = row} w none) (row-first range none) last h =
+length-rows n number (entry-first {x = row} w none) (entry-first range none) last h =
     omega (arith, w, length-row value-digits number row (omega arith) (omega arith) range (λ i k. omega (arith, range .values i k)), ap (λ (m : ℕ). most-row value-digits m) w)
-length-rows n number (row-first {row = row} w (row-first {row = next} {rows = rows} v wide)) (row-first range ranges) (earlier p passed) h =
-    omega (arith, ap length (rows-append number (row ∷ []) (next ∷ rows)), length-append (rowsText number (row ∷ [])) (rowsText (number + 1) (next ∷ rows)), length-row passed-digits number row (omega arith) (omega arith) range (λ i k. omega (arith, p i k)), ap (λ (m : ℕ). most-row passed-digits m) w, length-rows n (number + 1) (row-first v wide) ranges passed (omega arith), suc-mul (suc (length rows)) (most-row passed-digits n))
+length-rows n number (entry-first {x = row} w (entry-first {x = next} {xs = rows} v wide)) (entry-first range ranges) (earlier p passed) h =
+    omega (arith, ap length (rows-append number (row ∷ []) (next ∷ rows)), length-append (rowsText number (row ∷ [])) (rowsText (number + 1) (next ∷ rows)), length-row passed-digits number row (omega arith) (omega arith) range (λ i k. omega (arith, p i k)), ap (λ (m : ℕ). most-row passed-digits m) w, length-rows n (number + 1) (entry-first v wide) ranges passed (omega arith), suc-mul (suc (length rows)) (most-row passed-digits n))
 
 -- so many rows of n quantities, whichever is the last
 pub rows-brief : (n count : ℕ) → n ≤ most-quantities → count ≤ most-steps → count * most-row value-digits n ≤ most-steps * most-row value-digits most-quantities

@@ -4,16 +4,19 @@ use mathlib.Core.Path.{_≡_}
 use native.Mathlib.Omega.{arith}
 use lib.IntN.{ℤ}
 use lib.ListN.{length}
+use Rattle.model.specs.declared.Balls.{Balls}
 use Rattle.model.specs.declared.Outcome.{Outcome}
 use Rattle.model.specs.declared.Refusal.{Refusal}
 use Rattle.model.specs.declared.Sheet.{Sheet}
-use Rattle.model.specs.Sheet.{most, passes, refuses, sheetVerdict, verdictOutcome, termsOf}
-use Rattle.model.specs.Passage.{placesNeeded, run, passage, Kept}
-use Rattle.model.specs.Rows.{width}
+use Rattle.model.specs.declared.Terms.{Terms}
+use Rattle.model.specs.Sheet.{most, passes, refuses, sheetVerdict, verdictOutcome, listed, termsOf, startsOf}
+use Rattle.model.specs.LikeTerms.{gathered}
+use Rattle.model.specs.Passage.{placesNeeded, follow, run, passage, Kept}
+use Rattle.model.specs.Rows.{width, ballsOf}
 use Rattle.model.proofs.Rows.{rows-fit}
 use Rattle.verdict.proofs.Verdicts.{refuses-as}
 use Rattle.model.proofs.SheetBounds.{Counts}
-use Rattle.passage.proofs.Counts.{passed, can-step}
+use Rattle.passage.proofs.Counts.{passed, can-step, can-gather}
 use Rattle.passage.proofs.Kept.{kept-refused, kept-too-few-places, kept-run, promised}
 use borrow.Author.Needs.{needs}
 use Rattle.passage.proofs.run.Statement.{statement}
@@ -42,13 +45,18 @@ returns-2 c =
     let args = told .before .before .before .args in
     promised (args .sheet) (kept-too-few-places (args .sheet) (args .rows .now) (accepted told .1) (rw (c .before .before .width .ensures) at (c .if1 .taken)))
 
+-- the steps by the gathered terms, from the sheet's start, are the sheet's run
+ran : (sheet : Sheet) (terms : Terms) (start : Balls) {before after : List ℤ} {outcome : Outcome} → listed terms ≡ gathered (listed (sheet .terms)) → ballsOf (sheet .head .n) start ≡ startsOf sheet → Kept (follow (listed terms) (sheet .head .step) (sheet .head .tail) (sheet .head .tol) (sheet .head .steps) 1 (ballsOf (sheet .head .n) start)) before after outcome → Kept (run sheet) before after outcome
+unfolding run termsOf
+ran sheet terms start is from kept = rw (is, from) at kept
+
 returns-3 : tie.Need-returns-3
-unfolding placesNeeded termsOf run
+unfolding placesNeeded
 returns-3 c =
     let room = c .before .before .before .before .before in
     let told = room .before .before .before .before in
     let args = told .before .before .before .args in
-    let finished = rw (c .before .before .before .starts-of .ensures) at (c .before .run-steps .ensures) in
+    let finished = ran (args .sheet) (c .before .before .before .gather .result) (c .before .before .before .before .starts-of .result) (c .before .before .before .gather .ensures) (c .before .before .before .before .starts-of .ensures) (c .before .run-steps .ensures) in
     promised (args .sheet) (kept-run (args .sheet) (args .rows .now) (accepted told .1) (rw (room .before .before .width .ensures) at (room .if1 .left)) finished)
 
 -- ---- what the calls ask, and what fits
@@ -72,8 +80,11 @@ mul-if1 c =
     let counts = accepted (c .before .before .before) .0 in
     rw (c .before .width .ensures) (omega (arith, rows-fit (head .steps) (head .n) (counts .steps-high) (counts .n-high)))
 
+gather-requires : tie.Need-gather-requires
+gather-requires c κs = can-gather (c .before .before .before .before .before .before .before .before .args .sheet) (accepted (c .before .before .before .before .before) .1)
+
 starts-of-requires : tie.Need-starts-of-requires
-starts-of-requires c κs = accepted (c .before .before .before .before .before) .0 .n-high
+starts-of-requires c κs = accepted (c .before .before .before .before) .0 .n-high
 
 run-steps-requires : tie.Need-run-steps-requires
 unfolding most
@@ -82,7 +93,7 @@ run-steps-requires c κs =
     let told = room .before .before .before .before in
     let p = accepted told in
     record {
-      each = can-step (told .before .before .before .args .sheet) (p .0) (p .1);
+      each = can-step (told .before .before .before .args .sheet) (p .0) (p .1) (c .before .gather .result) (c .before .gather .ensures);
       steps = p .0 .steps-high;
       tol = omega (arith, p .0 .tol-high);
       room = rw (room .before .before .width .ensures) at (room .if1 .left);
@@ -103,6 +114,7 @@ run-spec =
     mul-if1
     returns-2
     starts-of-requires
+    gather-requires
     run-steps-requires
     same-length
     returns-3)

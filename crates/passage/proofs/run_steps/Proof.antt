@@ -16,7 +16,6 @@ use Rattle.model.specs.declared.Term.{Term}
 use Rattle.model.specs.declared.Refusal.{Refusal}
 use Rattle.model.specs.declared.Outcome.the-variants.{Refused}
 use Rattle.model.proofs.Follow.{Underway, underway-at-start, underway-length, room-for-row, moved, finished-by-refusal, finished}
-use Rattle.model.proofs.Listed.{length-listed}
 use Rattle.model.proofs.Taken.{degree-at-most}
 use Rattle.coefficients.specs.Orders.{Usable}
 use Rattle.coefficients.proofs.Filling.{blank-usable}
@@ -100,7 +99,7 @@ returns-2 c = finished (c .before .loop .inv .0) (c .before .before .before .pre
 sums-of-requires : tie.Need-sums-of-requires Inv-loop μ-loop
 sums-of-requires c κs =
     let each = c .pre .each in
-    (each .room, record { few = rw (length-listed (c .args .terms)) at (each .bounds .count); in-total = each .bounds .total })
+    (each .room, each .bounds .summable)
 
 take-step-requires : tie.Need-take-step-requires Inv-loop μ-loop
 take-step-requires c κs =

@@ -3,10 +3,10 @@ use mathlib.Core.Path.{_≡_}
 use Rattle.model.specs.Sheet.{passes, sheetVerdict, listed, termsOf}
 use Rattle.coefficients.proofs.Filling.{blank-usable}
 use Rattle.taylor.specs.Ratio.{SumsOf}
-use Rattle.taylor.specs.Step.{answered}
+use Rattle.taylor.specs.Step.{CanStep, answered}
 use Rattle.verdict.proofs.Verdicts.{refuses-as}
 use Rattle.model.proofs.SheetBounds.{Counts}
-use Rattle.passage.proofs.Counts.{passed, can-step}
+use Rattle.passage.proofs.Counts.{passed, can-step, can-gather}
 use Rattle.passage.proofs.Steps.{with-its-number, step-of-refused, step-of-passing}
 use borrow.Author.Needs.{needs}
 use Rattle.passage.proofs.step.Statement.{statement}
@@ -16,10 +16,8 @@ use Rattle.passage.proofs.step.Tie as tie
 accepted : (c : tie.After-enum-told) → Counts (c .before .before .before .args .sheet) × (sheetVerdict (c .before .before .before .args .sheet) ≡ passes)
 accepted c = passed (c .before .before .before .args .sheet) (c .before .before .verdict .ensures .0) (c .enum-told .given .1)
 
--- the sums are those of the sheet's terms
-sums-are : (c : tie.After-sums-of) →
-    let sheet = c .before .before .before .before .before .before .args .sheet in
-    SumsOf (listed (sheet .terms)) (sheet .head .n) (c .sums-of .result)
+-- the sums are those of the gathered terms
+sums-are : (c : tie.After-sums-of) → SumsOf (listed (c .before .gather .result)) (c .before .before .before .before .before .before .args .sheet .head .n) (c .sums-of .result)
 sums-are c = c .sums-of .ensures
 
 returns : tie.Need-returns
@@ -33,7 +31,7 @@ returns-2 : tie.Need-returns-2
 unfolding termsOf
 returns-2 c =
     let args = c .before .before .before .before .before .before .before .before .before .before .args in
-    with-its-number (args .start) _ (rw (step-of-passing (args .sheet) _ (accepted (c .before .before .before .before .before .before .before) .1)) (c .take-step .ensures .0))
+    with-its-number (args .start) _ (rw (step-of-passing (args .sheet) _ (accepted (c .before .before .before .before .before .before .before) .1), ← (c .before .before .before .before .before .gather .ensures)) (c .take-step .ensures .0))
 
 -- ---- what the calls ask, and what fits
 
@@ -46,15 +44,20 @@ enum-known-refused c = search needs
 enum-told : tie.Need-enum-told
 enum-told c = search needs
 
-sums-of-requires : tie.Need-sums-of-requires
-sums-of-requires c κs =
+gather-requires : tie.Need-gather-requires
+gather-requires c κs = can-gather (c .before .before .before .before .args .sheet) (accepted (c .before) .1)
+
+-- the gathered terms may be stepped by
+can-step-by : (c : tie.After-gather) → CanStep (c .before .before .before .before .before .args .sheet .head) (listed (c .gather .result))
+can-step-by c =
     let p = accepted (c .before .before) in
-    (p .0 .n-high, record { few = p .0 .terms-high; in-total = can-step (c .before .before .before .before .before .args .sheet) (p .0) (p .1) .bounds .total })
+    can-step (c .before .before .before .before .before .args .sheet) (p .0) (p .1) (c .gather .result) (c .gather .ensures)
+
+sums-of-requires : tie.Need-sums-of-requires
+sums-of-requires c κs = (can-step-by c .room, can-step-by c .bounds .summable)
 
 take-step-requires : tie.Need-take-step-requires
-take-step-requires c κs =
-    let p = accepted (c .before .before .before .before .before .before) in
-    (can-step (c .before .before .before .before .before .before .before .before .before .args .sheet) (p .0) (p .1), (sums-are (c .before .before .before), blank-usable _))
+take-step-requires c κs = (can-step-by (c .before .before .before .before), (sums-are (c .before .before .before), blank-usable _))
 
 pub step-spec : {M : Type 1} → statement M
 step-spec =
@@ -64,6 +67,7 @@ step-spec =
     enum-known-refused
     returns
     enum-told
+    gather-requires
     sums-of-requires
     take-step-requires
     returns-2)

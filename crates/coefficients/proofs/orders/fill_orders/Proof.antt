@@ -15,7 +15,7 @@ use Rattle.model.specs.Step.{most-degree, no-ball, coefficientsTo}
 use Rattle.model.specs.Rows.{ballIn}
 use Rattle.model.specs.declared.Ball.{Ball}
 use Rattle.model.specs.declared.Terms.{Terms}
-use Rattle.model.proofs.Listed.{length-listed}
+use Rattle.model.proofs.Listed.{length-listed, few-listed}
 use Rattle.coefficients.specs.Orders.{startIn, Fillable, Filled}
 use Rattle.coefficients.proofs.Entries.{getD-replicated}
 use Rattle.coefficients.proofs.Filled.{length-start}
@@ -48,7 +48,7 @@ summing : {terms : Terms} {H : ℤ} {n k : ℕ} {values₀ : List ℤ} {reaches�
 summing fits asked to order = record { bounds = rw (toZ-ofZ fits, to .start) (asked .bounds); filled = to .filled; room = asked .room; order = order }
 
 counted : (terms : Terms) {H : ℤ} {n : ℕ} {values : List ℤ} {reaches : List ℕ} → Fillable (listed terms) H n values reaches → terms .count ≤ most-terms
-counted terms asked = rw (length-listed terms) at (asked .bounds .sheet .count)
+counted terms asked = few-listed terms (asked .bounds .sheet .summable)
 
 at-order : (c : tie.In-loop Inv-loop2 μ-loop2 Inv-loop μ-loop) →
     let args = c .before .before .args in

@@ -14,7 +14,7 @@ use Rattle.model.specs.declared.Terms.{Terms}
 use Rattle.model.proofs.Ranges.{sum-suc}
 use Rattle.model.proofs.RatioNumbers.{coefs-fit}
 use Rattle.model.specs.Bounds.{total, most-total}
-use Rattle.model.proofs.Listed.{length-listed, getD-listed}
+use Rattle.model.proofs.Listed.{length-listed, few-listed, getD-listed}
 use borrow.Author.Needs.{needs}
 use Rattle.taylor.proofs.ratio.coefs.Statement.{statement}
 use Rattle.taylor.proofs.ratio.coefs.Tie as tie
@@ -61,10 +61,10 @@ unfolding partial
 partial-fits target count terms h j l = coefs-fit terms h target count j l
 
 mul-term : tie.Need-mul-term Inv-loop μ-loop
-mul-term c = omega arith
+mul-term c = omega (arith, few-listed (c .before .before .args .t3) (c .before .before .pre))
 
 element-copy-out-term : tie.Need-element-copy-out-term Inv-loop μ-loop
-element-copy-out-term c = omega arith
+element-copy-out-term c = omega (arith, few-listed (c .before .before .args .t3) (c .before .before .pre))
 
 coef-of-requires : tie.Need-coef-of-requires Inv-loop μ-loop
 coef-of-requires c κs = search needs
@@ -77,7 +77,7 @@ add-sum c =
     let target = at-start .args .target in
     let count = at-start .args .count in
     let terms = at-start .args .t3 in
-    omega (arith, one-more target count terms (turn .loop .j) (c .before .before .loop-test .taken) (turn .loop .inv .0) (c .coef-of .ensures), partial-fits target count (listed terms) (at-start .pre .in-total) (turn .loop .j + 1) (omega (arith, length-listed terms)))
+    omega (arith, one-more target count terms (turn .loop .j) (c .before .before .loop-test .taken) (turn .loop .inv .0) (c .coef-of .ensures), partial-fits target count (listed terms) (at-start .pre .total) (turn .loop .j + 1) (omega (arith, length-listed terms)))
 
 add-j : tie.Need-add-j Inv-loop μ-loop
 add-j c = omega arith

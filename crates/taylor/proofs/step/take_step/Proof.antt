@@ -173,7 +173,7 @@ ratio-requires c κs =
       rw (step-kept c) (at-start .pre .0 .bounds .step),
       record {
         few = at-start .pre .0 .room;
-        bounded = ratios.sums-bounded (at-start .pre .1 .0) (at-start .pre .0 .bounds .total);
+        bounded = ratios.sums-bounded (at-start .pre .1 .0) (at-start .pre .0 .bounds .summable .total);
         reaching = reaching (c .before);
       },
     )
