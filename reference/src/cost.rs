@@ -2,6 +2,7 @@
 //! three and keep the other two, and the products that a passage forms.
 
 use crate::generate::longest_step_that;
+use crate::like_terms::gathered;
 use crate::passage::start;
 use crate::sheet::{Sheet, Term};
 use crate::step::advance;
@@ -42,8 +43,8 @@ fn with_steps(sheet: &Sheet, steps: usize) -> Variant {
     }
 }
 
-/// The first `count` terms. Their coefficients make up for the others': where all have one target
-/// and one size, the ratio is what it was, and the degree with it.
+/// The first `count` terms. Their coefficients make up for the others': where all have one size, no two
+/// are alike and the targets take turns, the ratio is what it was, and the degree with it.
 fn with_terms(sheet: &Sheet, count: usize) -> Variant {
     let share = (sheet.terms.len() / count) as i64;
     let enlarged = |term: &Term| Term {
@@ -92,9 +93,10 @@ pub fn degrees(sheet: &Sheet, rows: &[i64]) -> Vec<usize> {
 }
 
 /// How many products c_l × c'_(k-l) steps of these degrees form: at every order k below the degree,
-/// a term of two factors takes k + 1.
+/// a gathered term of two factors takes k + 1.
 pub fn products(sheet: &Sheet, degrees: &[usize]) -> usize {
-    let terms = sheet.terms.iter().filter(|term| term.second != 0).count();
+    let terms = gathered(&sheet.terms);
+    let terms = terms.iter().filter(|term| term.second != 0).count();
     let each = degrees.iter().map(|degree| degree * (degree + 1) / 2);
     terms * each.sum::<usize>()
 }

@@ -8,6 +8,7 @@ pub mod compare;
 pub mod cost;
 pub mod explore;
 pub mod generate;
+pub mod like_terms;
 pub mod passage;
 pub mod queries;
 pub mod random;

@@ -2,7 +2,7 @@
 
 use crate::rows;
 use crate::sheet::{MOST_QUANTITIES, Refusal, Sheet};
-use crate::step::{self, State};
+use crate::step::{State, Steps};
 
 /// A refused passage: why, and at which step (0 before step 1).
 #[derive(Clone, Copy, Debug, PartialEq, Eq)]
@@ -19,10 +19,12 @@ pub fn run(sheet: &Sheet, rows: &mut [i64]) -> Result<(), Refused> {
         return Err(before(Refusal::BufferTooShort));
     }
     let n = sheet.starts.len();
+    let steps = Steps::of(sheet);
     let mut state = start(sheet);
     let places = rows.chunks_exact_mut(sheet.row_places());
     for (at, place) in (1..=sheet.steps as usize).zip(places) {
-        let row = step::advance(sheet, &state).map_err(|refusal| Refused { refusal, at })?;
+        let row = steps.advance(&state);
+        let row = row.map_err(|refusal| Refused { refusal, at })?;
         state = row.state;
         let (degree, values, radii) = rows::parts_mut(place);
         *degree = row.degree as i64;

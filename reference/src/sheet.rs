@@ -65,6 +65,7 @@ pub struct Sheet {
     pub tail: i64,
     pub tol: i64,
     pub starts: Vec<Start>,
+    /// As read: like terms are added where a passage is run or a step taken.
     pub terms: Vec<Term>,
 }
 

@@ -1,5 +1,6 @@
 //! One rounded step of document 01: ratio, tail and degree, then the coefficients and the next row.
 
+use crate::like_terms::gathered;
 use crate::rounding::{SCALE, SCALE_SIZE, near, up};
 use crate::sheet::{LIMIT, MOST_QUANTITIES, Refusal, Sheet, Term};
 
@@ -23,41 +24,67 @@ pub struct Row {
     pub state: State,
 }
 
-/// One step, or the refusal of questions 4 to 6.
-pub fn advance(sheet: &Sheet, state: &State) -> Result<Row, Refusal> {
-    let n = sheet.starts.len();
-    let sizes = || (0..n).map(|i| state.values[i].unsigned_abs() + state.radii[i]);
-    if sizes().any(|size| size > LIMIT as u64) {
-        return Err(Refusal::ValueTooLarge);
-    }
-    let scale = sizes().fold(SCALE_SIZE, u64::max);
-    let ratio = ratio(sheet, scale);
-    if ratio > MOST_RATIO {
-        return Err(Refusal::StepTooLong);
-    }
-    let (degree, tail) = degree_and_tail(scale, ratio, sheet.tail as u64);
-    let next = Coefficients::of(sheet, state, degree).sum(n, degree, tail);
-    if next.radii[..n].iter().any(|&r| r > sheet.tol as u64) {
-        return Err(Refusal::RadiusTooLarge);
-    }
-    Ok(Row {
-        degree,
-        state: next,
-    })
+/// What the steps of a passage work with: the sheet's numbers, and its terms gathered.
+pub struct Steps<'a> {
+    pub sheet: &'a Sheet,
+    pub terms: Vec<Term>,
 }
 
-/// The ratio q of a step from states of the common scale G.
-pub fn ratio(sheet: &Sheet, scale: u64) -> u64 {
-    // The sums of |A| over a target's terms with no, one and two factors.
-    let mut sums = [[0; 3]; MOST_QUANTITIES];
-    for term in &sheet.terms {
-        sums[term.to as usize - 1][factors(term)] += term.coef.unsigned_abs();
+impl<'a> Steps<'a> {
+    pub fn of(sheet: &'a Sheet) -> Self {
+        Steps {
+            sheet,
+            terms: gathered(&sheet.terms),
+        }
     }
-    let sizes = sums
-        .iter()
-        .map(|[none, one, two]| up(SCALE_SIZE * none, scale) + one + up(scale * two, SCALE_SIZE));
-    let largest = sizes.max().unwrap_or(0);
-    up(largest * sheet.step.unsigned_abs(), SCALE_SIZE)
+
+    /// One step, or the refusal of questions 4 to 6.
+    pub fn advance(&self, state: &State) -> Result<Row, Refusal> {
+        let sheet = self.sheet;
+        let n = sheet.starts.len();
+        let sizes = || (0..n).map(|i| state.values[i].unsigned_abs() + state.radii[i]);
+        if sizes().any(|size| size > LIMIT as u64) {
+            return Err(Refusal::ValueTooLarge);
+        }
+        let scale = sizes().fold(SCALE_SIZE, u64::max);
+        let ratio = self.ratio(scale);
+        if ratio > MOST_RATIO {
+            return Err(Refusal::StepTooLong);
+        }
+        let (degree, tail) = degree_and_tail(scale, ratio, sheet.tail as u64);
+        let next = Coefficients::of(self, state, degree).sum(n, degree, tail);
+        if next.radii[..n].iter().any(|&r| r > sheet.tol as u64) {
+            return Err(Refusal::RadiusTooLarge);
+        }
+        Ok(Row {
+            degree,
+            state: next,
+        })
+    }
+
+    /// The ratio q of a step from states of the common scale G.
+    pub fn ratio(&self, scale: u64) -> u64 {
+        // The sums of |A| over a target's terms with no, one and two factors.
+        let mut sums = [[0; 3]; MOST_QUANTITIES];
+        for term in &self.terms {
+            sums[term.to as usize - 1][factors(term)] += term.coef.unsigned_abs();
+        }
+        let sizes = sums.iter().map(|[none, one, two]| {
+            up(SCALE_SIZE * none, scale) + one + up(scale * two, SCALE_SIZE)
+        });
+        let largest = sizes.max().unwrap_or(0);
+        up(largest * self.sheet.step.unsigned_abs(), SCALE_SIZE)
+    }
+}
+
+/// A single step of a sheet, or its refusal.
+pub fn advance(sheet: &Sheet, state: &State) -> Result<Row, Refusal> {
+    Steps::of(sheet).advance(state)
+}
+
+/// The ratio of a sheet's step from states of the common scale.
+pub fn ratio(sheet: &Sheet, scale: u64) -> u64 {
+    Steps::of(sheet).ratio(scale)
 }
 
 fn factors(term: &Term) -> usize {
@@ -84,8 +111,8 @@ struct Coefficients {
 }
 
 impl Coefficients {
-    fn of(sheet: &Sheet, state: &State, degree: usize) -> Self {
-        let n = sheet.starts.len();
+    fn of(steps: &Steps, state: &State, degree: usize) -> Self {
+        let n = steps.sheet.starts.len();
         let mut all = Coefficients {
             c: [[0; MOST_DEGREE + 1]; MOST_QUANTITIES],
             e: [[0; MOST_DEGREE + 1]; MOST_QUANTITIES],
@@ -97,9 +124,9 @@ impl Coefficients {
         for k in 0..degree {
             let mut rates = [0; MOST_QUANTITIES];
             let mut errors = [0; MOST_QUANTITIES];
-            for term in &sheet.terms {
+            for term in &steps.terms {
                 let (s, f) = all.product(term, k);
-                let (v, g) = scaled(sheet.step, term.coef, s, f);
+                let (v, g) = scaled(steps.sheet.step, term.coef, s, f);
                 rates[term.to as usize - 1] += v;
                 errors[term.to as usize - 1] += g;
             }

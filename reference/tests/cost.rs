@@ -3,6 +3,7 @@
 use reference::compare::reference;
 use reference::cost::{Variant, degrees, products, variants};
 use reference::generate::{Trial, text};
+use reference::like_terms::gathered;
 use reference::sheet::{Sheet, read};
 
 fn largest() -> Sheet {
@@ -52,6 +53,14 @@ fn a_hindcast_varies_by_the_same_lengths() {
     assert_eq!(variants(&hindcast).len(), variants(&forecast).len());
 }
 
+/// Like terms would be added, and fewer would be left to work on.
+#[test]
+fn the_sheets_have_no_like_terms() {
+    for Variant { varied, sheet } in variants(&largest()) {
+        assert_eq!(gathered(&sheet.terms), sheet.terms, "{varied}");
+    }
+}
+
 #[test]
 fn a_varied_sheet_says_what_was_varied() {
     for Variant { varied, sheet } in variants(&largest()) {
@@ -77,4 +86,14 @@ fn only_terms_of_two_factors_form_products() {
     sheet.terms[1].second = 0;
     assert_eq!(products(&sheet, &[]), 0);
     assert_eq!(products(&sheet, &[0, 1, 3]), 2 * (1 + (1 + 2 + 3)));
+}
+
+#[test]
+fn like_terms_form_their_products_once() {
+    let mut sheet = largest();
+    sheet.terms.truncate(1);
+    sheet.terms.push(sheet.terms[0]);
+    assert_eq!(products(&sheet, &[3]), 1 + 2 + 3);
+    sheet.terms[1].coef = -sheet.terms[0].coef;
+    assert_eq!(products(&sheet, &[3]), 0);
 }

@@ -1,5 +1,5 @@
-//! Document 01's worked cases A to J and the ones it only runs, and hindcasts. (Case I stands beside the
-//! roundings.)
+//! Document 01's worked cases A to J and the ones it only runs, hindcasts, and like terms. (Case I stands beside
+//! the roundings.)
 
 use reference::answer::answer;
 use reference::passage::{Refused, run};
@@ -164,6 +164,65 @@ fn a_step_in_numbers_has_the_same_range() {
     let mut rows = [MARK; 3];
     assert_eq!(run(&with_step(-4194304), &mut rows), Ok(()));
     assert_eq!(rows, [2, 13631488, 349534]);
+}
+
+/// Case A's sheet with other terms: of each its coefficient and its factors.
+fn with_terms(terms: &[[i64; 3]]) -> String {
+    let (head, _) = CASE_A.split_once("terms=1\n").unwrap();
+    let groups = terms.iter().map(|[coef, first, second]| {
+        format!("to=1\ncoef={coef}\nfirst={first}\nsecond={second}\n")
+    });
+    format!(
+        "{head}terms={}\n{}",
+        terms.len(),
+        groups.collect::<String>()
+    )
+}
+
+#[test]
+fn like_terms_that_add_up_to_case_a_have_its_answer() {
+    let squares = |coefs: &[i64]| {
+        let terms: Vec<[i64; 3]> = coefs.iter().map(|&coef| [coef, 1, 1]).collect();
+        answer_of(&with_terms(&terms))
+    };
+    let answer = one_row(2, 22020096, 349534);
+    assert_eq!(squares(&[16777216]), answer);
+    assert_eq!(squares(&[268435456, -251658240]), answer);
+    assert_eq!(squares(&[5, -5, 16777216]), answer);
+    assert_eq!(squares(&[0, 16777216]), answer);
+    assert_eq!(squares(&[524288; 32]), answer);
+    for zero in [[0, 0, 0], [0, 1, 0]] {
+        let beside = with_terms(&[zero, [16777216, 1, 1]]);
+        assert_eq!(answer_of(&beside), answer);
+    }
+}
+
+#[test]
+fn terms_that_cancel_wholly_have_degree_0() {
+    let start = one_row(0, 16777216, 0);
+    assert_eq!(answer_of(&with_terms(&[])), start);
+    assert_eq!(answer_of(&with_terms(&[[0, 1, 1]])), start);
+    for factors in [[0, 0], [1, 0], [1, 1]] {
+        let [first, second] = factors;
+        let both = [[16777216, first, second], [-16777216, first, second]];
+        assert_eq!(answer_of(&with_terms(&both)), start, "{factors:?}");
+    }
+}
+
+/// A sum may pass a coefficient's range, but a term of the sheet may not, whatever it would add up to.
+#[test]
+fn the_range_is_asked_of_the_terms_as_read() {
+    let beyond = with_terms(&[[268435457, 1, 1], [-268435456, 1, 1]]);
+    assert_eq!(answer_of(&beyond), refused(3, 0));
+    let second_alone = with_terms(&[[5, 1, 1], [0, 0, 1]]);
+    assert_eq!(answer_of(&second_alone), refused(3, 0));
+    let terms = [[5, 1, 1], [0, 1, 0], [-5, 1, 1]];
+    let sheet = read(with_terms(&terms).as_bytes()).unwrap();
+    let kept = sheet
+        .terms
+        .iter()
+        .map(|term| [term.coef, term.first, term.second]);
+    assert_eq!(kept.collect::<Vec<_>>(), terms);
 }
 
 #[test]
