@@ -42,14 +42,30 @@ def random_passage(rng, direction):
     }
 
 
-def longest_step(starts, terms, ratio):
-    """About the length of the longest step whose ratio is at most `ratio`."""
+def gathered(terms):
+    """The terms with like ones added, those with the same target and the same factors in either order;
+    each sum in the place of the earliest, and those of 0 left out."""
+    sums = {}
+    for to, coef, first, second in terms:
+        like = to, *sorted([first, second])
+        _, total, *factors = sums.get(like, (to, 0, first, second))
+        sums[like] = to, total + coef, *factors
+    return [term for term in sums.values() if term[1]]
+
+
+def largest_size(starts, terms):
+    """The largest size of a quantity, about: what the length of a step is multiplied by to give its ratio."""
     scale = max([SCALE] + [abs(value) + radius for value, radius in starts]) / SCALE
     sizes = {}
     for to, coef, first, second in terms:
         power = (first > 0) + (second > 0) - 1
         sizes[to] = sizes.get(to, 0) + abs(coef) / SCALE * scale**power
-    largest = max(sizes.values())
+    return max(sizes.values(), default=0)
+
+
+def longest_step(starts, terms, ratio):
+    """About the length of the longest step whose ratio is at most `ratio`."""
+    largest = largest_size(starts, gathered(terms))
     return SCALE if largest <= ratio else max(1, int(ratio / largest * SCALE))
 
 
