@@ -62,6 +62,13 @@ def approach_over_sill(start, coefs, time):
     return [height, rise, speed, squat, clearance, start[5] + run, root, level]
 
 
+def drag_corrected(start, coefs, time):
+    """A ship losing way, its drag the sum of two terms; the clearance gains what the squat loses."""
+    speed, run = ship(start[0], -(coefs[0] + coefs[1]), time)
+    squat = start[2] * (speed / start[0]) ** 2
+    return [speed, start[1] + run, squat, start[3] + start[2] - squat]
+
+
 def jacobi(start, coefs, time):
     """sn, cn and dn of parameter 1/2 by the arithmetic-geometric mean."""
     ladder = [(1.0, sqrt(0.5))]
@@ -97,6 +104,7 @@ def van_der_pol(start, coefs, time):
 FORMS = {
     "approach-over-sill": approach_over_sill,
     "basin-through-sluice": basin_through_sluice,
+    "drag-corrected": drag_corrected,
     "exponential": lambda start, coefs, time: [exp(time)],
     "growing-oscillation": lambda start, coefs, time: [
         sqrt(time + 1) * cos(time**2),
