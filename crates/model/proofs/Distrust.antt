@@ -3,7 +3,7 @@
 use Prim.Native.Nat.{ℕ, zero, suc, _≤_, _<_}
 use mathlib.Core.Bool.{false≢true}
 use mathlib.Core.List.{List, [], _∷_}
-use mathlib.Core.Path.{refl}
+use mathlib.Core.Path.{_≡_, refl}
 use native.Mathlib.Omega.{arith}
 use borrow.Author.Tests.{le-leb}
 use lib.IntN.{ℤ, pos, negℤ, _*ℤ_, pow, one}
@@ -43,11 +43,7 @@ start-lies step = record { rational = omega arith; quantities = refl; near = at 
     at (suc i) h = absurd (omega arith)
 
 no-lower : (K : ℕ) → 2 ≤ K → (ball : Ball) → NoLower (K ∷ []) (record { degree = 2; balls = ball ∷ [] } ∷ [])
-no-lower K le ball = record { each = refl; lower = at }
-  where
-    at : (j : ℕ) → j < 1 → getD (record { degree = 2; balls = ball ∷ [] } ∷ []) j no-row .degree ≤ getD (K ∷ []) j 0
-    at zero h = le
-    at (suc j) h = absurd (omega arith)
+no-lower K le ball = record { each = refl; lower = λ j h. let first : j ≡ 0 = omega arith in rw first (omega (arith, le)) }
 
 pub forward-row-distrusted : TrustedOf (case-A (negℤ (pos 4194304))) row-of-A → ⊥
 unfolding TrustedOf Trusted case-A row-of-A whole stateAfter exactSum sumDenominator sumNumerator ordersTo order nextOrder product factorℤ bringsℤ binomial sumℤ tabulate listed termsOf termsHeld padded no-term no-row no-ball scale pow one

@@ -12,9 +12,9 @@ use lib.ListN.{length, getD, replicate}
 use borrow.Author.Tests.{le-leb}
 use Rattle.rounding.specs.Rounding.{up}
 use Rattle.rounding.proofs.Roundings.{up-is-least}
-use Rattle.model.specs.Range.{sum, sumℤ, largest, least}
-use Rattle.model.specs.Sheet.{scale, no-term, sheetVerdict, passes, termsOf, startsOf}
-use Rattle.model.specs.LikeTerms.{coefsLike, gathered}
+use Rattle.model.specs.Range.{sum, sumℤ, largest, tabulate, least}
+use Rattle.model.specs.Sheet.{scale, no-term, sheetVerdict, passes, listed, termsOf, startsOf}
+use Rattle.model.specs.LikeTerms.{coefsLike, filter, summed, gathered}
 use Rattle.model.specs.Step.{Ball, no-ball, greatest, size, coefs, ratio, majorant, tailAt, degree, coefficient, coefficientsTo, Row, newBall, newRow, stepRow}
 use Rattle.model.specs.Passage.{moves, question, small, slow, most-ratio, tolerable, tolerated, advance, goOn, follow, placesNeeded, run, passage}
 use Rattle.model.specs.declared.Sheet.{Sheet}
@@ -91,7 +91,11 @@ follow-without-terms H limit tol (suc steps) step balls s t = rw (advance-withou
 
 -- ---- a sheet
 
--- terms that cancel wholly: none is left
+-- no terms: none is left, and so where they cancel wholly
+pub no-terms : (sheet : Sheet) → sheet .terms .count ≡ 0 → gathered (termsOf sheet) ≡ []
+unfolding termsOf listed tabulate gathered summed filter
+no-terms sheet none = rw none
+
 pub cancelled : (terms : List Term) → ((t : Term) → coefsLike t terms ≡ pos 0) → gathered terms ≡ []
 cancelled terms zero-sums = go (gathered terms) (gathered-coef terms) (gathered-nonzero terms)
   where

@@ -1,6 +1,6 @@
 -- Document 01's soundings A to J, A and D with the step back, like terms, the range of each field, the order of question 3 and what else no sounding
--- fixes, as one table; then numbers as they are printed and as they are spelled, a table each. proofs/Cases.antt has a theorem for each table, that all of it
--- holds.
+-- fixes, as one table; then numbers as they are printed and as they are spelled, a table each. proofs/Cases.antt has a theorem for each table, that
+-- all of it holds.
 use Prim.Native.Nat.{ℕ}
 use Prim.Native.Char.{code}
 use Prim.Native.String.{String, _++_ as _&_}
