@@ -1,25 +1,24 @@
 -- The rounded coefficients enclose the exact summands of every order, for every quantity, and their sums the exact sum: s Y_k H^k ÷ M_k lies
 -- within e_k of c_k. Assumes nothing.
-use Prim.Native.Nat.{ℕ, zero, suc, _*_, _≤_, _<_}
+use Prim.Native.Nat.{ℕ, zero, suc, _≤_, _<_}
 use mathlib.Core.List.{List}
 use mathlib.Core.Logic.{⊎-elim}
-use mathlib.Core.Path.{_≡_, refl}
-use native.Mathlib.Nat.{eq-or-lt-of-le, mul-comm, zero-add}
+use mathlib.Core.Path.{_≡_}
+use native.Mathlib.Nat.{eq-or-lt-of-le}
 use native.Mathlib.Omega.{arith}
-use lib.IntN.{ℤ, pos, _+ℤ_, _*ℤ_, pow, +ℤ-idl, *ℤ-one}
+use lib.IntN.{ℤ, pow, *ℤ-one}
 use lib.ListN.{length}
 use Rattle.rounding.specs.Enclosure.{Within}
-use Rattle.rounding.proofs.Integers.{ringℤ}
-use Rattle.rounding.proofs.Enclosure.{within-sum, within-scaled}
 use Rattle.model.specs.Range.{sum, sumℤ}
 use Rattle.model.specs.Sheet.{scale}
-use Rattle.model.specs.Exact.{State, Orders, order, ordersTo, sumDenominator, sumNumerator}
+use Rattle.model.specs.Exact.{State, Orders, order, ordersTo, sumDenominator}
 use Rattle.model.specs.Step.{Ball, Coefficients, coefficient, coefficientsTo}
 use Rattle.model.specs.Trust.{LiesWithin}
 use Rattle.model.specs.declared.Term.{Term}
-use Rattle.model.proofs.Ranges.{before-or-past, within-same}
+use Rattle.model.proofs.Ranges.{before-or-past}
 use Rattle.model.proofs.Tables.{coefficients-grow, orders-grow}
 use Rattle.model.proofs.NextCoefficient.{SummandInside, summand-zero, next-enclosed}
+use Rattle.model.proofs.Tail.{summand, partialSum, sums-within}
 
 module _ (terms : List Term) (H : ℤ) (balls : List Ball) (state : State) (start : LiesWithin balls state) where
   abbrev D : ℕ
@@ -67,17 +66,6 @@ module _ (terms : List Term) (H : ℤ) (balls : List Ball) (state : State) (star
   pub summand-enclosed : (d k i : ℕ) → k ≤ d → SummandInside H D k (order (orders k) k i) (coefficient (table d) k i)
   summand-enclosed d k i h = rw (coefficients-grow terms H balls .stays d k i h) (up-to d k i h)
 
-  sums-enclosed-to : (d K i : ℕ) → K ≤ d → Within (pos scale *ℤ sumNumerator terms state H scale K i) (sumDenominator D scale K) (sumℤ (suc K) (λ k. coefficient (table d) k i .value)) (sum (suc K) (λ k. coefficient (table d) k i .radius))
-  unfolding sumNumerator sumDenominator sum sumℤ pow
-  sums-enclosed-to d zero i h = rw (+ℤ-idl, zero-add) (rw *ℤ-one at (summand-enclosed d 0 i h))
-  sums-enclosed-to d (suc K) i h =
-      within-same (out (pos q) (pos scale) (sumNumerator terms state H scale K i) (order (orders (suc K)) (suc K) i *ℤ pow H (suc K))) refl (within-sum (within-same refl (mul-comm q (sumDenominator D scale K)) (within-scaled q (sums-enclosed-to d K i (omega arith)))) (summand-enclosed d (suc K) i h))
-    where
-      q : ℕ
-      q = suc K * (D * (scale * scale))
-
-      out : (q s n x : ℤ) → q *ℤ (s *ℤ n) +ℤ s *ℤ x ≡ s *ℤ (n *ℤ q +ℤ x)
-      out q s n x = simp ringℤ
-
-  pub sums-enclosed : (d i : ℕ) → Within (pos scale *ℤ sumNumerator terms state H scale d i) (sumDenominator D scale d) (sumℤ (suc d) (λ k. coefficient (table d) k i .value)) (sum (suc d) (λ k. coefficient (table d) k i .radius))
-  sums-enclosed d i = sums-enclosed-to d d i (omega arith)
+  pub sums-enclosed : (d i : ℕ) → Within (partialSum terms state H scale i d) (sumDenominator D scale d) (sumℤ (suc d) (λ k. coefficient (table d) k i .value)) (sum (suc d) (λ k. coefficient (table d) k i .radius))
+  unfolding summand
+  sums-enclosed d i = sums-within terms state H scale i _ _ d (λ k h. summand-enclosed d k i h)

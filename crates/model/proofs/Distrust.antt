@@ -1,5 +1,7 @@
 -- Demand 3 is not met by any row: case A's own row, which holds the exact sums of A, is not trusted where A's step goes back; and A's value alone,
--- which is the exact sum of its degree, is not trusted, since those of higher degrees differ. Assumes nothing.
+-- which is the exact sum of its degree, is not trusted, since those of higher degrees differ. Nor is the claim about the water between the rows met
+-- by any lows and highs: not by those of a step the other way; not by those that hold the exact sums of the printed degree alone, or a path's start,
+-- half and end alone; and not by those of a later row that hold only what the start leads to. Assumes nothing.
 use Prim.Native.Nat.{ℕ, zero, suc, _≤_, _<_}
 use mathlib.Core.Bool.{false≢true}
 use mathlib.Core.List.{List, [], _∷_}
@@ -12,9 +14,10 @@ use Rattle.rounding.specs.Enclosure.{Within}
 use Rattle.model.specs.Range.{sumℤ, tabulate}
 use Rattle.model.specs.Sheet.{scale, no-term, no-quantity, listed, termsOf, startValue, startBall, startsOf, padded, quantitiesHeld, termsHeld}
 use Rattle.model.specs.Exact.{binomial, bringsℤ, State, order, factorℤ, product, nextOrder, ordersTo, sumDenominator, sumNumerator, exactSum}
-use Rattle.model.specs.Step.{Ball, no-ball, Row}
-use Rattle.model.specs.Trust.{LiesWithin, stateAfter, no-row, NoLower, Trusted, TrustedOf}
+use Rattle.model.specs.Step.{Ball, no-ball, no-span, Row}
+use Rattle.model.specs.Trust.{LiesWithin, stateAfter, no-row, NoLower, Trusted, TrustedOf, startOf, Spanned, SpannedOf}
 use Rattle.model.specs.declared.Sheet.{Sheet}
+use Rattle.model.specs.declared.Term.{Term}
 use Rattle.model.specs.declared.Start.the-variants.{Reading}
 
 -- case A as numbers, with this step
@@ -28,7 +31,7 @@ case-A step =
 
 -- its row, for the step 4,194,304
 pub row-of-A : List Row
-row-of-A = record { degree = 2; balls = record { value = pos 22020096; radius = 349534 } ∷ [] } ∷ []
+row-of-A = record { degree = 2; balls = record { value = pos 22020096; radius = 349534 } ∷ []; spans = [] } ∷ []
 
 -- the start as an exact state: one whole
 whole : State
@@ -42,7 +45,7 @@ start-lies step = record { rational = omega arith; quantities = refl; near = at 
     at zero h = record { off = omega arith }
     at (suc i) h = absurd (omega arith)
 
-no-lower : (K : ℕ) → 2 ≤ K → (ball : Ball) → NoLower (K ∷ []) (record { degree = 2; balls = ball ∷ [] } ∷ [])
+no-lower : (K : ℕ) → 2 ≤ K → (ball : Ball) → NoLower (K ∷ []) (record { degree = 2; balls = ball ∷ []; spans = [] } ∷ [])
 no-lower K le ball = record { each = refl; lower = λ j h. let first : j ≡ 0 = omega arith in rw first (omega (arith, le)) }
 
 pub forward-row-distrusted : TrustedOf (case-A (negℤ (pos 4194304))) row-of-A → ⊥
@@ -52,9 +55,88 @@ forward-row-distrusted h =
 
 -- the same value with radius 0
 pub value-of-A : List Row
-value-of-A = record { degree = 2; balls = record { value = pos 22020096; radius = 0 } ∷ [] } ∷ []
+value-of-A = record { degree = 2; balls = record { value = pos 22020096; radius = 0 } ∷ []; spans = [] } ∷ []
 
 pub value-alone-distrusted : TrustedOf (case-A (pos 4194304)) value-of-A → ⊥
 unfolding TrustedOf Trusted case-A value-of-A whole stateAfter exactSum sumDenominator sumNumerator ordersTo order nextOrder product factorℤ bringsℤ binomial sumℤ tabulate listed termsOf termsHeld padded no-term no-row no-ball scale pow one
 value-alone-distrusted h =
     false≢true (le-leb _ _ (h whole (start-lies _) (3 ∷ []) (no-lower 3 (omega arith) _) 0 (omega arith) .0 .near 0 (omega arith) .off))
+
+-- ---- between the rows
+
+-- case A's row with this low and this high
+pub row-between : ℤ → ℤ → List Row
+row-between low high =
+    record { degree = 2; balls = record { value = pos 22020096; radius = 349534 } ∷ []; spans = record { low = low; high = high } ∷ [] } ∷ []
+
+-- from the start up, where A goes down
+pub forward-span-distrusted : SpannedOf (case-A (negℤ (pos 4194304))) (row-between (pos 16777216) (pos 22369630)) → ⊥
+unfolding SpannedOf Spanned startOf case-A row-between whole exactSum sumDenominator sumNumerator ordersTo order nextOrder product factorℤ bringsℤ binomial sumℤ tabulate listed termsOf termsHeld padded no-term no-row no-span scale pow one
+forward-span-distrusted h = h 0 (omega arith) whole (start-lies _) 1 1 (omega arith) (omega arith) 2 (omega arith) .above 0 (omega arith) .le
+
+-- from the start up to the exact sum of the printed degree
+pub degree-alone-distrusted : SpannedOf (case-A (pos 4194304)) (row-between (pos 16777216) (pos 22020096)) → ⊥
+unfolding SpannedOf Spanned startOf case-A row-between whole exactSum sumDenominator sumNumerator ordersTo order nextOrder product factorℤ bringsℤ binomial sumℤ tabulate listed termsOf termsHeld padded no-term no-row no-span scale pow one
+degree-alone-distrusted h = h 0 (omega arith) whole (start-lies _) 1 1 (omega arith) (omega arith) 3 (omega arith) .below 0 (omega arith) .le
+
+-- x' = y, y' = -1
+pub turning : List Term
+turning = record { to = 1; coef = pos 16777216; first = 2; second = 0 } ∷ record { to = 2; coef = negℤ (pos 16777216); first = 0; second = 0 } ∷ []
+
+-- x from 0 and y from 3/4 of a whole: over a step of one whole x is 3/4 t - t²/2, highest at t = 3/4
+pub turning-start : List Ball
+turning-start = record { value = pos 0; radius = 0 } ∷ record { value = pos 12582912; radius = 0 } ∷ []
+
+turning-state : State
+turning-state = record { denominator = 4; numerators = pos 0 ∷ pos 3 ∷ [] }
+
+turning-lies : LiesWithin turning-start turning-state
+unfolding turning-start turning-state scale no-ball
+turning-lies = record { rational = omega arith; quantities = refl; near = at }
+  where
+    at : (i : ℕ) → i < 2 → Within (pos scale *ℤ getD (turning-state .numerators) i (pos 0)) 4 (getD turning-start i no-ball .value) (getD turning-start i no-ball .radius)
+    at zero h = record { off = omega arith }
+    at (suc zero) h = record { off = omega arith }
+    at (suc (suc i)) h = absurd (omega arith)
+
+-- x between its start and its end, which it has at the step's half too
+pub turning-row : List Row
+turning-row =
+    record {
+      degree = 2;
+      balls = record { value = pos 4194304; radius = 0 } ∷ record { value = negℤ (pos 4194304); radius = 0 } ∷ [];
+      spans = record { low = pos 0; high = pos 4194304 } ∷ record { low = negℤ (pos 4194304); high = pos 12582912 } ∷ [];
+    } ∷ []
+
+pub ends-alone-distrusted : Spanned turning (pos 16777216) turning-start turning-row → ⊥
+unfolding Spanned startOf turning turning-start turning-state turning-row exactSum sumDenominator sumNumerator ordersTo order nextOrder product factorℤ bringsℤ binomial sumℤ tabulate no-term no-row no-span scale pow one
+ends-alone-distrusted h = h 0 (omega arith) turning-state turning-lies 3 4 (omega arith) (omega arith) 2 (omega arith) .below 0 (omega arith) .le
+
+-- two quantities that stay: from a start of 0 without a radius each row holds all, but the second row's step starts from the radii of the first
+pub still-start : List Ball
+still-start = record { value = pos 0; radius = 0 } ∷ record { value = pos 0; radius = 0 } ∷ []
+
+pub still-row : Row
+still-row =
+    record {
+      degree = 0;
+      balls = record { value = pos 0; radius = 0 } ∷ record { value = pos 0; radius = 1 } ∷ [];
+      spans = record { low = pos 0; high = pos 0 } ∷ record { low = pos 0; high = pos 0 } ∷ [];
+    }
+
+-- one unit of the second quantity
+unit : State
+unit = record { denominator = 16777216; numerators = pos 0 ∷ pos 1 ∷ [] }
+
+unit-lies : LiesWithin (still-row .balls) unit
+unfolding still-row unit scale no-ball
+unit-lies = record { rational = omega arith; quantities = refl; near = at }
+  where
+    at : (i : ℕ) → i < 2 → Within (pos scale *ℤ getD (unit .numerators) i (pos 0)) 16777216 (getD (still-row .balls) i no-ball .value) (getD (still-row .balls) i no-ball .radius)
+    at zero h = record { off = omega arith }
+    at (suc zero) h = record { off = omega arith }
+    at (suc (suc i)) h = absurd (omega arith)
+
+pub start-alone-distrusted : Spanned [] (pos 16777216) still-start (still-row ∷ still-row ∷ []) → ⊥
+unfolding Spanned startOf still-start still-row unit exactSum sumDenominator sumNumerator ordersTo order tabulate no-row no-span scale pow one
+start-alone-distrusted h = h 1 (omega arith) unit unit-lies 0 1 (omega arith) (omega arith) 0 (omega arith) .below 1 (omega arith) .le

@@ -4,18 +4,18 @@ use Prim.Native.Nat.{ℕ, zero, suc, _+_, _*_, _^_, _≤_, _<_}
 use mathlib.Core.Bool.{true}
 use mathlib.Core.List.{List}
 use mathlib.Core.Path.{_≡_, sym, ap, _∙_}
-use native.Mathlib.Nat.{le-trans, mul-pos, mul-le-mul-right, le-of-mul-le-mul-right}
+use native.Mathlib.Nat.{le-refl, le-trans, mul-pos, mul-le-mul-left, mul-le-mul-right, le-of-mul-le-mul-right}
 use native.Mathlib.Decide.{decLt}
 use native.Mathlib.Omega.{arith}
 use borrow.Author.Tests.{leb-true}
-use lib.IntN.{ℤ, pos, natAbs, _+ℤ_, _-ℤ_, _*ℤ_, pow}
+use lib.IntN.{ℤ, pos, natAbs, _+ℤ_, _-ℤ_, _*ℤ_}
 use lib.ListN.{length, getD, List·getD-eq-default}
 use Rattle.rounding.specs.Enclosure.{Within}
 use Rattle.rounding.proofs.Integers.{ringℤ, abs-add, abs-mul, minus-plus, through}
 use Rattle.rounding.proofs.Roundings.{up-not-below}
 use Rattle.model.specs.Range.{largest}
 use Rattle.model.specs.Sheet.{scale}
-use Rattle.model.specs.Exact.{State, order, ordersTo, sumDenominator, sumNumerator, exactSum}
+use Rattle.model.specs.Exact.{State, sumDenominator, sumNumerator, exactSum}
 use Rattle.model.specs.Step.{Ball, no-ball, reach, greatest, size, ratio, tailAt, degree, coefficientsTo, newBall, newRow, stepRow}
 use Rattle.model.specs.Passage.{slow, most-ratio}
 use Rattle.model.specs.Trust.{LiesWithin}
@@ -74,28 +74,34 @@ module _ (terms : List Term) (formed : WellFormed terms) (H : ℤ) (balls : List
           rw (← abs-mul (pos scale) (getD (state .numerators) i (pos 0))) (le-trans (reached _ _ (state .denominator) _ (start .near i lt)) (mul-le-mul-right (state .denominator) (reach-le-greatest balls i)))
       by-place (no past) = rw (List·getD-eq-default (state .numerators) (pos 0) {n = i} (omega (arith, start .quantities))) (omega arith)
 
-  sizes-under : (i : ℕ) → i < length (state .numerators) → size terms G (suc i) * natAbs H ≤ q * scale
-  unfolding ratio
-  sizes-under i h =
-      le-trans (mul-le-mul-right (natAbs H) (largest-le (length balls) (λ j. size terms G (suc j)) i (rw (start .quantities) at h))) (up-not-below (largest (length balls) (λ j. size terms G (suc j)) * natAbs H) scale-positive)
+  -- At a step of h ÷ w that is no longer than H ÷ s:
+  module _ (h : ℤ) (w : ℕ) (positive : 0 < w) (no-longer : natAbs h * scale ≤ natAbs H * w) where
+    sizes-under : (i : ℕ) → i < length (state .numerators) → size terms G (suc i) * natAbs h ≤ q * w
+    unfolding ratio
+    sizes-under i lt =
+        shorter (size terms G (suc i)) (le-trans (mul-le-mul-right (natAbs H) (largest-le (length balls) (λ j. size terms G (suc j)) i (rw (start .quantities) at lt))) (up-not-below (largest (length balls) (λ j. size terms G (suc j)) * natAbs H) scale-positive))
+      where
+        shorter : (b : ℕ) → b * natAbs H ≤ q * scale → b * natAbs h ≤ q * w
+        shorter b under = le-of-mul-le-mul-right {k = scale} (omega (arith, mul-le-mul-left b no-longer, mul-le-mul-right w under)) scale-positive
 
-  -- the summand of order k, for every k
-  pub order-under : (k i : ℕ) → natAbs (pos scale *ℤ (order (ordersTo terms state k) k i *ℤ pow H k)) * scale ^ k ≤ G * q ^ k * sumDenominator (state .denominator) scale k
-  order-under k i = summand-under terms state H scale G q formed (scale-le-greatest balls) starts-under sizes-under k i
+    -- the summand of order k, for every k
+    pub order-under : (k i : ℕ) → natAbs (summand terms state h w i k) * scale ^ k ≤ G * q ^ k * sumDenominator (state .denominator) w k
+    unfolding summand
+    order-under k i = summand-under terms state h w G q formed (scale-le-greatest balls) starts-under sizes-under k i
 
-  tail-covers : (d K i : ℕ) → d ≤ K → natAbs (apart terms state H scale i d K) ≤ tailAt G q d * (sumDenominator (state .denominator) scale K * sumDenominator (state .denominator) scale d)
-  unfolding summand
-  tail-covers d K i h =
-      tail-covers-rest terms state H scale i G q (omega (arith, at-most-half terms H balls slowly, scale-positive)) (λ k. order-under k i) d K h
+    -- what encloses the exact sum of degree d encloses with the tail that of every degree from d up
+    pub tail-encloses : (d K i : ℕ) → d ≤ K → {c : ℤ} {e : ℕ} → Within (partialSum terms state h w i d) (sumDenominator (state .denominator) w d) c e → Within (partialSum terms state h w i K) (sumDenominator (state .denominator) w K) c (e + tailAt G q d)
+    unfolding apart
+    tail-encloses d K i le enclosed =
+        within-through (sumDenominator (state .denominator) w d) (sumDenominator (state .denominator) w K) (tailAt G q d) (denominator-positive (state .denominator) w d (start .rational) positive) enclosed (tail-covers-rest terms state h w i G q (omega (arith, at-most-half terms H balls slowly, scale-positive)) (λ k. order-under k i) d K le)
 
   -- the exact sum of degree K, by the coefficients of the orders 0 .. d and the tail
-  sum-enclosed : (d K i : ℕ) → d ≤ K → Within (pos scale *ℤ sumNumerator terms state H scale K i) (sumDenominator (state .denominator) scale K) (newBall (coefficientsTo terms H balls d) d (tailAt G q d) i .value) (newBall (coefficientsTo terms H balls d) d (tailAt G q d) i .radius)
-  unfolding newBall apart partialSum
-  sum-enclosed d K i h =
-      within-through (sumDenominator (state .denominator) scale d) (sumDenominator (state .denominator) scale K) (tailAt G q d) (denominator-positive (state .denominator) scale d (start .rational) scale-positive) (sums-enclosed terms H balls state start d i) (tail-covers d K i h)
+  sum-enclosed : (d K i : ℕ) → d ≤ K → Within (partialSum terms state H scale i K) (sumDenominator (state .denominator) scale K) (newBall (coefficientsTo terms H balls d) d (tailAt G q d) i .value) (newBall (coefficientsTo terms H balls d) d (tailAt G q d) i .radius)
+  unfolding newBall
+  sum-enclosed d K i h = tail-encloses H scale scale-positive (le-refl (natAbs H * scale)) d K i h (sums-enclosed terms H balls state start d i)
 
   row-encloses : (d K : ℕ) → d ≤ K → LiesWithin (newRow terms H balls d (tailAt G q d) .balls) (exactSum terms H scale K state)
-  unfolding newRow exactSum
+  unfolding newRow exactSum partialSum
   row-encloses d K h =
       record {
         rational = denominator-positive (state .denominator) scale K (start .rational) scale-positive;

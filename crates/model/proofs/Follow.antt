@@ -16,9 +16,9 @@ use Rattle.model.specs.declared.Refusal.{Refusal}
 use Rattle.model.specs.declared.Outcome.{Outcome}
 use Rattle.model.specs.declared.Outcome.the-variants.{Accepted, Refused}
 use Rattle.model.proofs.Lists.{none, entry-first}
-use Rattle.model.proofs.Rows.{Wide, places-length, written-is-sets, sets-one-row-more}
+use Rattle.model.proofs.Rows.{Quantities, Wide, places-length, written-is-sets, sets-one-row-more}
 
-wide-one-more : {n : ℕ} {rows : List Row} (row : Row) → Wide n rows → length (row .balls) ≡ n → Wide n (rows ++ (row ∷ []))
+wide-one-more : {n : ℕ} {rows : List Row} (row : Row) → Wide n rows → Quantities n row → Wide n (rows ++ (row ∷ []))
 wide-one-more row none h = entry-first h none
 wide-one-more row (entry-first l w) h = entry-first l (wide-one-more row w h)
 
@@ -79,7 +79,7 @@ module _ {terms : List Term} {H : ℤ} {limit tol : ℕ} where
       fits : length (places (u .rows)) ≤ length buffer
       fits = omega (arith, places-done u, mul-le-mul-right (width n) (u .few))
 
-  pub moved : {steps n : ℕ} {start : List Ball} {buffer held : List ℤ} {done : ℕ} {balls : List Ball} (row : Row) → Underway terms H limit tol steps n start buffer done balls held → done < steps → advance terms H limit tol balls ≡ moves row → length (row .balls) ≡ n → Underway terms H limit tol steps n start buffer (done + 1) (row .balls) (sets held (done * width n) (rowPlaces row))
+  pub moved : {steps n : ℕ} {start : List Ball} {buffer held : List ℤ} {done : ℕ} {balls : List Ball} (row : Row) → Underway terms H limit tol steps n start buffer done balls held → done < steps → advance terms H limit tol balls ≡ moves row → Quantities n row → Underway terms H limit tol steps n start buffer (done + 1) (row .balls) (sets held (done * width n) (rowPlaces row))
   unfolding after goOn
   moved {steps} {n} {start} {buffer} {held} {done} {balls} row u h e l =
       record {

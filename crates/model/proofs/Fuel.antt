@@ -1,18 +1,22 @@
--- A number's decimal text: the fuel of its definition does not decide it, and it spells the number, without a leading zero.
--- Assumes nothing.
-use Prim.Native.Nat.{ℕ, zero, suc, _+_, _-_, _*_, _/_, _%_, _≤_, _<_}
+-- A number's decimal text: the fuel of its definition does not decide it, it spells the number, without a leading zero, and how long it
+-- is at most. Assumes nothing.
+use Prim.Native.Nat.{ℕ, zero, suc, _+_, _-_, _*_, _^_, _/_, _%_, _≤_, _<_}
 use Prim.Native.Char.{code}
+use Prim.Native.String.{String}
 use mathlib.Core.Path.{_≡_, refl, sym, ap, _∙_}
 use mathlib.Core.Bool.{true}
-use mathlib.Core.Logic.{_≢_}
+use mathlib.Core.Logic.{_≢_, ⊎-elim}
 use mathlib.Core.List.{List, [], _∷_, _++_}
+use native.Mathlib.Nat.{pow-suc}
 use native.Mathlib.Omega.{arith}
 use native.Mathlib.Decide.{decLt}
-use lib.IntN.{pos}
+use lib.IntN.{ℤ, pos, negsuc, natAbs}
 use lib.ListN.{length, getD, length-append, List·getD-append}
 use borrow.Author.Tests.{lt-ltb, le-ltb, le-leb}
+use Rattle.model.specs.Range.{bytes}
 use Rattle.model.specs.Reading.{isDigit}
-use Rattle.model.specs.Answer.{digit, decimalBy, decimal}
+use Rattle.model.specs.Answer.{digit, decimalBy, decimal, printed}
+use Rattle.model.proofs.Ranges.{before-or-past}
 
 -- one digit, and one digit more
 short : (fuel : ℕ) {n : ℕ} → n < 10 → decimalBy fuel n ≡ digit n ∷ []
@@ -107,3 +111,31 @@ text-is-digits fuel n h = decimal-induction Digits one more fuel n h
           some = omega (arith, d .some, length-append text (digit (n % 10) ∷ []));
           no-leading-zero = λ k. rw (List·getD-append text (digit (n % 10) ∷ []) 0 0 (d .some)) (d .no-leading-zero (omega arith));
         }
+
+-- ---- how long it is
+
+tenth-below : (k n : ℕ) → n < 10 ^ suc (suc k) → n / 10 < 10 ^ suc k
+tenth-below k n h = omega (arith, pow-suc 10 (suc k))
+
+-- no more than k digits below 10^k
+pub length-below : (k n : ℕ) → 0 < k → n < 10 ^ k → length (decimal (pos n)) ≤ k
+length-below zero n l h = absurd (omega arith)
+length-below (suc zero) n l h = rw (decimal-digit n h) (omega arith)
+length-below (suc (suc k)) n l h =
+    ⊎-elim
+    (λ short. rw (decimal-digit n short) (omega arith))
+    (λ long. rw (decimal-digits n long, length-append) (omega (arith, length-below (suc k) (n / 10) (omega arith) (tenth-below k n h))))
+    (before-or-past n 10)
+
+-- a sign, and no more than k digits
+pub length-signed : (k : ℕ) (z : ℤ) → 0 < k → natAbs z < 10 ^ k → length (decimal z) ≤ suc k
+unfolding decimal
+length-signed k (pos n) l h = omega (arith, length-below k n l h)
+length-signed k (negsuc n) l h = omega (arith, length-below k (suc n) l h)
+
+-- a line: its key, its number and two bytes more
+pub length-printed : (key : String) (z : ℤ) → length (printed key z) ≡ length (bytes key) + length (decimal z) + 2
+unfolding printed bytes
+length-printed key z =
+    omega
+    (arith, length-append (bytes key ++ bytes "=" ++ decimal z) (bytes "\n"), length-append (bytes key ++ bytes "=") (decimal z), length-append (bytes key) (bytes "="))

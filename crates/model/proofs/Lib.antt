@@ -38,6 +38,8 @@ pub mod Parsers
 pub mod Readings
 pub mod NoTerms
 pub mod Enclosed
+pub mod SpannedStep
+pub mod Spanned
 pub mod ExactStates
 pub mod Halving
 pub mod Taken
@@ -48,3 +50,6 @@ pub mod SheetBounds
 pub mod GatheredBounds
 pub mod RowRange
 pub mod Follow
+pub mod RoundTrip
+pub mod Parts
+pub mod Conversion

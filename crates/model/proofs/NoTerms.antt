@@ -1,12 +1,12 @@
--- Document 01's case F in general: without terms, or where all cancel, a step has degree 0 and leaves the values and radii as they are. Assumes
--- nothing.
+-- Document 01's case F in general: without terms, or where all cancel, a step has degree 0 and leaves the values and radii as they are, and
+-- its lows and highs are the values less and plus the radii. Assumes nothing.
 use Prim.Native.Nat.{ℕ, zero, suc, _+_, _≤_, _<_}
 use mathlib.Core.Path.{_≡_, refl, ap, _∙_}
 use mathlib.Core.Bool.{Bool, true}
 use mathlib.Core.List.{List, [], _∷_}
 use native.Mathlib.Omega.{arith}
 use native.Mathlib.Nat.{mul-zero, zero-mul, sub-zero}
-use lib.IntN.{ℤ, pos, natAbs, +ℤ-idl}
+use lib.IntN.{ℤ, pos, natAbs, _+ℤ_, _-ℤ_, +ℤ-idl}
 use lib.Dec.{leb}
 use lib.ListN.{length, getD, replicate}
 use borrow.Author.Tests.{le-leb}
@@ -15,14 +15,14 @@ use Rattle.rounding.proofs.Roundings.{up-is-least}
 use Rattle.model.specs.Range.{sum, sumℤ, largest, tabulate, least}
 use Rattle.model.specs.Sheet.{scale, no-term, sheetVerdict, passes, listed, termsOf, startsOf}
 use Rattle.model.specs.LikeTerms.{coefsLike, filter, summed, gathered}
-use Rattle.model.specs.Step.{Ball, no-ball, greatest, size, coefs, ratio, majorant, tailAt, degree, coefficient, coefficientsTo, Row, newBall, newRow, stepRow}
+use Rattle.model.specs.Step.{Ball, no-ball, Span, greatest, size, coefs, ratio, majorant, tailAt, degree, coefficient, coefficientsTo, Row, newBall, stepReach, newSpan, newRow, stepRow}
 use Rattle.model.specs.Passage.{moves, question, small, slow, most-ratio, tolerable, tolerated, advance, goOn, follow, placesNeeded, run, passage}
 use Rattle.model.specs.declared.Sheet.{Sheet}
 use Rattle.model.specs.declared.Term.{Term}
 use Rattle.model.specs.declared.Outcome.the-variants.{Accepted}
 use Rattle.model.proofs.Reach.{scale-positive}
 use Rattle.model.proofs.Invariant.{scale-le-greatest}
-use Rattle.model.proofs.Ranges.{tabulate-is}
+use Rattle.model.proofs.Ranges.{tabulate-is, tabulate-equal}
 use Rattle.model.proofs.Gathered.{gathered-coef, gathered-nonzero}
 
 up-zero : {d : ℕ} → 0 < d → up 0 d ≡ 0
@@ -65,13 +65,29 @@ same-ball balls i = λ t. record { value = +ℤ-idl (getD balls i no-ball .value
     plain : (r : ℕ) → 0 + r + 0 ≡ r
     plain r = omega arith
 
+-- a value less and plus its radius
+unfoldable pub spanOf : Ball → Span
+spanOf ball = record { low = ball .value -ℤ pos (ball .radius); high = ball .value +ℤ pos (ball .radius) }
+
+same-span : (balls : List Ball) (i : ℕ) → newSpan (balls ∷ []) 0 0 i ≡ spanOf (getD balls i no-ball)
+unfolding newSpan stepReach spanOf coefficient sum
+same-span balls i = ap (λ (reach : ℕ). record { low = getD balls i no-ball .value -ℤ pos reach; high = getD balls i no-ball .value +ℤ pos reach }) (plain (getD balls i no-ball .radius))
+  where
+    plain : (r : ℕ) → r + 0 + 0 ≡ r
+    plain r = omega arith
+
 -- the row of a step without terms
 unfoldable pub unmoved : List Ball → Row
-unmoved balls = record { degree = 0; balls = balls }
+unmoved balls = record { degree = 0; balls = balls; spans = tabulate (length balls) (λ i. spanOf (getD balls i no-ball)) }
 
 same-row : (H : ℤ) (balls : List Ball) → newRow [] H balls 0 0 ≡ unmoved balls
 unfolding newRow coefficientsTo unmoved
-same-row H balls = ap (λ (b : List Ball). record { degree = 0; balls = b }) (tabulate-is (length balls) (newBall (balls ∷ []) 0 0) no-ball balls refl (λ i h. same-ball balls i))
+same-row H balls =
+    λ t. record {
+      degree = 0;
+      balls = tabulate-is (length balls) (newBall (balls ∷ []) 0 0) no-ball balls refl (λ i h. same-ball balls i) t;
+      spans = tabulate-equal (length balls) (newSpan (balls ∷ []) 0 0) _ (λ i h. same-span balls i) t;
+    }
 
 pub step-without-terms : (H : ℤ) (limit : ℕ) (balls : List Ball) → stepRow [] H limit balls ≡ unmoved balls
 unfolding stepRow

@@ -108,7 +108,7 @@ yields-step = yields-ranged stepWithin (line "step" signed)
 -- ---- a line of a text is asked what numbers are asked, and nothing else
 
 -- what a line comes to whose number has this verdict
-pub answers : {A : Type 0} → Verdict → A → List ℕ → Parsed A
+unfoldable pub answers : {A : Type 0} → Verdict → A → List ℕ → Parsed A
 answers passes a rest = parsed a rest
 answers (refuses r) a rest = fault r
 

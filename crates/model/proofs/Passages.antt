@@ -20,8 +20,8 @@ use Rattle.model.specs.declared.Outcome.{Outcome}
 use Rattle.model.specs.declared.Outcome.the-variants.{Accepted, Refused}
 use Rattle.model.proofs.Ranges.{length-tabulate}
 use Rattle.model.proofs.Lists.{Each, none, entry-first}
-use Rattle.model.proofs.Rows.{Wide}
-use Rattle.model.proofs.Taken.{quantities-stay}
+use Rattle.model.proofs.Rows.{Quantities, Wide}
+use Rattle.model.proofs.Taken.{quantities-stay, row-of-quantities}
 
 -- ---- what every row of a passage has
 
@@ -116,7 +116,7 @@ unfolding run rowsWritten
 rows-of-run sheet =
     let counts : CountsOf (sheet .head .steps) 1 (run sheet) = follow-counts (gathered (termsOf sheet)) (sheet .head .step) (sheet .head .tail) (sheet .head .tol) (sheet .head .steps) 1 (startsOf sheet) in
     record {
-      wide = run-each sheet (λ row. length (row .balls) ≡ sheet .head .n) (λ balls row l e. quantities-stay _ _ _ _ balls e ∙ l);
+      wide = run-each sheet (Quantities (sheet .head .n)) (λ balls row l e. row-of-quantities _ _ _ _ balls e l);
       count = counted counts;
       fits = few counts;
       refused-at = within counts;

@@ -54,6 +54,11 @@ unfolding sum
 sum-le zero f g h = omega arith
 sum-le (suc n) f g h = omega (arith, sum-le n f g (below n h), h n (omega arith))
 
+pub sum-plus : (n : ℕ) (f g : ℕ → ℕ) → sum n (λ k. f k + g k) ≡ sum n f + sum n g
+unfolding sum
+sum-plus zero f g = refl
+sum-plus (suc n) f g = omega (arith, sum-plus n f g)
+
 pub sum-constant : (n a : ℕ) → sum n (λ k. a) ≡ n * a
 unfolding sum
 sum-constant zero a = sym (zero-mul a)

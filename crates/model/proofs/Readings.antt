@@ -15,7 +15,7 @@ use lib.ListN.{length, getD, take, replicate, length-append, length-replicate, L
 use borrow.Author.Tests.{lt-leb, eq-eqb}
 use Rattle.model.specs.Range.{bytes}
 use Rattle.model.specs.Reading.{Parsed, parsed, fault, return, _>>=_, signedField, start, quantity, term, head, quantities, terms, body, sheet, accepted, readSheetTo, after}
-use Rattle.model.specs.Sheet.{most-bytes, most-quantities, most-terms, number, Verdict, passes, _then_, inOrder, headVerdict, quantityVerdict, quantitiesVerdict, startVerdict, termVerdict, termsVerdict, sheetVerdictTo, sheetVerdict, no-quantity, no-term, no-sheet, padded, quantitiesHeld, termsHeld, ZeroPastCounts, n-limits, steps-limits, tail-limits, tol-limits, start-limits, radius-limits, terms-limits, to-limits, coef-limits, first-limits, second-limits, from_to_}
+use Rattle.model.specs.Sheet.{most-bytes, most-quantities, most-steps, most-terms, number, Verdict, passes, _then_, inOrder, headVerdict, quantityVerdict, quantitiesVerdict, startVerdict, termVerdict, termsVerdict, sheetVerdictTo, sheetVerdict, no-quantity, no-term, no-sheet, padded, quantitiesHeld, termsHeld, ZeroPastCounts, n-limits, steps-limits, tail-limits, tol-limits, start-limits, radius-limits, terms-limits, to-limits, coef-limits, first-limits, second-limits, from_to_}
 use Rattle.model.specs.declared.Refusal.{Refusal}
 use Rattle.model.specs.declared.Refusal.the-variants.{Oversized, NoReading}
 use Rattle.model.specs.declared.Start.{Start}
@@ -31,7 +31,7 @@ use Rattle.model.proofs.Parsers.{Delivers, delivers, faulty, Yields, Ea
 
 -- ---- the parts of a sheet
 
-after-itself : (key rest : List ℕ) → after key (key ++ rest) ≡ some rest
+pub after-itself : (key rest : List ℕ) → after key (key ++ rest) ≡ some rest
 unfolding after
 after-itself [] rest = refl
 after-itself (k ∷ key) rest = rw (eq-eqb k k refl, after) (after-itself key rest)
@@ -209,7 +209,7 @@ module _ (high : ℕ) where
 -- refusal 4
 pub starts-are-readings : (sheet : Sheet) → sheetVerdict sheet ≡ passes → (i : ℕ) → i < sheet .head .n → (z : ℤ) × (getD (sheet .quantities) i no-quantity .start ≡ Reading z)
 unfolding quantityVerdict startVerdict
-starts-are-readings sheet h i l = reading (getD (sheet .quantities) i no-quantity .start) (both-pass _ _ (sheet-in-range sheet h .quantity i l) .0)
+starts-are-readings sheet h i l = reading (getD (sheet .quantities) i no-quantity .start) (both-pass _ _ (sheet-in-range most-steps sheet h .quantity i l) .0)
   where
     reading : (x : Start) → startVerdict x ≡ passes → (z : ℤ) × (x ≡ Reading z)
     reading (Reading z) e = (z, refl)

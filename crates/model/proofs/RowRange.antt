@@ -1,7 +1,7 @@
--- Every row that a passage writes keeps to a range: by questions 4 and 5 and the sharp bound its values, by question 6 its radii. `most` is 2^29.
+-- Every row that a passage writes keeps to a range: by questions 4 and 5 and the sharp bound its values, lows and highs, by question 6 its radii. `most` is 2^29.
 -- Assumes nothing.
 use Prim.Native.Nat.{ℕ, _+_, _*_, _≤_, _<_}
-use mathlib.Core.Path.{_≡_}
+use mathlib.Core.Path.{_≡_, refl}
 use mathlib.Core.List.{List}
 use native.Mathlib.Nat.{le-trans, zero-mul, mul-le-mul-right}
 use native.Mathlib.Omega.{arith}
@@ -15,18 +15,24 @@ use Rattle.model.specs.Rows.{width, written}
 use Rattle.model.specs.Trust.{no-row}
 use Rattle.model.specs.Bounds.{InBounds, Printable, RowsPrintable}
 use Rattle.model.specs.declared.Sheet.{Sheet}
-use Rattle.model.proofs.Halving.{row-sharp}
+use Rattle.model.proofs.Halving.{row-sharp, Spread, spans-sharp}
 use Rattle.model.proofs.Invariant.{greatest-le-most}
 use Rattle.model.proofs.Passages.{AllButLast, empty, run-each, run-earlier, rows-of-run, rows-of-passage, passage-either}
 use Rattle.model.proofs.Lists.{Each, none, each-at}
-use Rattle.model.proofs.Rows.{row-written}
+use Rattle.model.proofs.Rows.{Quantities, row-written}
 use Rattle.model.proofs.SheetBounds.{bounds-of-step, counts-of-sheet}
 use Rattle.model.proofs.GatheredBounds.{bounds-of-gathered}
-use Rattle.model.proofs.Taken.{all-tolerated, Taken, step-taken, quantities-stay, degree-at-most}
+use Rattle.model.proofs.Taken.{all-tolerated, Taken, step-taken, quantities-stay, row-of-quantities, degree-at-most}
 
 row-in-range : (sheet : Sheet) → sheetVerdict sheet ≡ passes → (balls : List Ball) (row : Row) → length balls ≡ sheet .head .n → advance (gathered (termsOf sheet)) (sheet .head .step) (sheet .head .tail) (sheet .head .tol) balls ≡ moves row → Printable row
 row-in-range sheet passed balls row l e =
-    record { degree = degree-at-most _ _ _ _ balls e; values = λ i h. omega (arith, value-at i h, radius-at i h, greatest-le-most bounds); radii = radius-at }
+    record {
+      degree = degree-at-most _ _ _ _ balls e;
+      values = λ i h. omega (arith, value-at i h, radius-at i h, greatest-le-most bounds);
+      radii = radius-at;
+      lows = λ i h. omega (arith, span-at i h .0, radius-at i (held i h), greatest-le-most bounds);
+      highs = λ i h. omega (arith, span-at i h .1, radius-at i (held i h), greatest-le-most bounds);
+    }
   where
     taken : Taken (gathered (termsOf sheet)) (sheet .head .step) (sheet .head .tail) (sheet .head .tol) balls row
     taken = step-taken _ _ _ _ balls e
@@ -40,6 +46,16 @@ row-in-range sheet passed balls row l e =
     value-at : (i : ℕ) → i < length (row .balls) → natAbs (getD (row .balls) i no-ball .value) ≤ 2 * greatest balls + getD (row .balls) i no-ball .radius
     value-at i h =
         rw (taken .is-row) (row-sharp (gathered (termsOf sheet)) (record { absent = bounds .sheet .formed }) (sheet .head .step) balls (taken .is-slow) i (sheet .head .tail) (rw (quantities-stay _ _ _ _ balls e) at h))
+
+    wide : Quantities (length balls) row
+    wide = row-of-quantities _ _ _ _ balls e refl
+
+    held : (i : ℕ) → i < length (row .spans) → i < length (row .balls)
+    held i h = omega (arith, wide .balls, wide .spans)
+
+    span-at : (i : ℕ) → i < length (row .spans) → Spread (greatest balls) row i
+    span-at i h =
+        rw (taken .is-row) (spans-sharp (gathered (termsOf sheet)) (record { absent = bounds .sheet .formed }) (sheet .head .step) balls (taken .is-slow) i (sheet .head .tail) (rw (wide .spans) at h))
 
 pub passage-in-range : (sheet : Sheet) (places : ℕ) → Each Printable (passage sheet places .rows)
 unfolding refused

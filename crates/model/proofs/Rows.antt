@@ -9,18 +9,23 @@ use lib.IntN.{ℤ, pos, natAbs}
 use lib.ListN.{length, getD, drop, length-append, length-map, length-drop, List·getD-append, List·getD-map}
 use lib.Seq.{sets, sets-eq, getD-append-add, getD-drop}
 use Rattle.model.specs.Sheet.{most-quantities, most-steps}
-use Rattle.model.specs.Step.{no-ball, Row}
-use Rattle.model.specs.Rows.{ballIn, ballsIn, parts, values-part, radii-part, width, degreePlace, partPlace, rowParts, rowPlaces, places, written, rowIn, rowsIn}
+use Rattle.model.specs.Step.{no-ball, no-span, Row}
+use Rattle.model.specs.Rows.{ballIn, ballsIn, spansOf, parts, values-part, radii-part, lows-part, highs-part, width, degreePlace, partPlace, rowParts, rowPlaces, places, written, rowIn, rowsIn}
 use Rattle.model.specs.Trust.{no-row}
+use Rattle.model.specs.declared.Spans.{Spans}
 use Rattle.model.proofs.Ranges.{tabulate-is, length-tabulate}
 use Rattle.model.proofs.Lists.{Each, none, entry-first, each-at}
 use Rattle.model.proofs.Stores.{sets-append}
 
--- ---- balls in two arrays
+-- ---- balls and spans in two arrays each
 
 pub length-balls : (n : ℕ) (values : List ℤ) (radii : List ℕ) → length (ballsIn n values radii) ≡ n
 unfolding ballsIn
 length-balls n values radii = length-tabulate n (ballIn values radii)
+
+pub length-spans : (n : ℕ) (spans : Spans) → length (spansOf n spans) ≡ n
+unfolding spansOf
+length-spans n spans = length-tabulate n _
 
 -- ---- parts, one after another
 
@@ -46,18 +51,24 @@ part-entry {n} (part-first {part = part} {later = later} l w) (suc p) i h k =
     let e : suc p * n + i ≡ length part + (p * n + i) = omega (arith, l, suc-mul p n) in
     rw e (getD-append-add part (flatten later) (p * n + i) (pos 0) ∙ part-entry w p i (omega arith) k)
 
-row-parts : (row : Row) {n : ℕ} → length (row .balls) ≡ n → Parts n parts (rowParts row)
+-- a row of n quantities
+pub record Quantities (n : ℕ) (row : Row) : Type 0 where
+  pub balls : length (row .balls) ≡ n
+  pub spans : length (row .spans) ≡ n
+
+row-parts : (row : Row) {n : ℕ} → Quantities n row → Parts n parts (rowParts row)
 unfolding rowParts
-row-parts row h = part-first (length-map (row .balls) _ ∙ h) (part-first (length-map (row .balls) _ ∙ h) no-part)
+row-parts row h =
+    part-first (length-map (row .balls) _ ∙ h .balls) (part-first (length-map (row .balls) _ ∙ h .balls) (part-first (length-map (row .spans) _ ∙ h .spans) (part-first (length-map (row .spans) _ ∙ h .spans) no-part)))
 
 -- ---- rows of n quantities
 
 abbrev pub Wide : ℕ → List Row → Type 0
-Wide n = Each (λ row. length (row .balls) ≡ n)
+Wide n = Each (Quantities n)
 
 -- ---- the places of rows
 
-row-length : (row : Row) {n : ℕ} → length (row .balls) ≡ n → length (rowPlaces row) ≡ width n
+row-length : (row : Row) {n : ℕ} → Quantities n row → length (rowPlaces row) ≡ width n
 unfolding rowPlaces width
 row-length row h = omega (arith, parts-length (row-parts row h))
 
@@ -99,12 +110,21 @@ module _ {n : ℕ} {rows : List Row} (w : Wide n rows) (buffer : List ℤ) (j : 
   unfolding rowParts no-ball
   radius-written i k = part-written radii-part i (omega arith) k ∙ List·getD-map (λ ball. pos (ball .radius)) (getD rows j no-row .balls) i no-ball
 
+  low-written : (i : ℕ) → i < n → getD (written rows buffer) (partPlace n j lows-part i) (pos 0) ≡ getD (getD rows j no-row .spans) i no-span .low
+  unfolding rowParts no-span
+  low-written i k = part-written lows-part i (omega arith) k ∙ List·getD-map (λ span. span .low) (getD rows j no-row .spans) i no-span
+
+  high-written : (i : ℕ) → i < n → getD (written rows buffer) (partPlace n j highs-part i) (pos 0) ≡ getD (getD rows j no-row .spans) i no-span .high
+  unfolding rowParts no-span
+  high-written i k = part-written highs-part i (omega arith) k ∙ List·getD-map (λ span. span .high) (getD rows j no-row .spans) i no-span
+
   pub row-written : rowIn n (written rows buffer) j ≡ getD rows j no-row
   unfolding rowIn
   row-written =
       λ t. record {
         degree = natAbs (degree-written t);
-        balls = tabulate-is n _ no-ball (getD rows j no-row .balls) (each-at no-row w j h) (λ i k. λ t. record { value = value-written i k t; radius = natAbs (radius-written i k t) }) t;
+        balls = tabulate-is n _ no-ball (getD rows j no-row .balls) (each-at no-row w j h .balls) (λ i k. λ t. record { value = value-written i k t; radius = natAbs (radius-written i k t) }) t;
+        spans = tabulate-is n _ no-span (getD rows j no-row .spans) (each-at no-row w j h .spans) (λ i k. λ t. record { low = low-written i k t; high = high-written i k t }) t;
       }
 
 pub rows-in-written : {n : ℕ} {rows : List Row} → Wide n rows → (buffer : List ℤ) → rowsIn n (length rows) (written rows buffer) ≡ rows

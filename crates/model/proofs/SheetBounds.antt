@@ -28,12 +28,12 @@ unfolding second-limits
 second-absent n zero second e absent = omega (arith, in-range {low = 0} {high = 0} second e)
 second-absent n (suc first) second e absent = absurd (omega arith)
 
-second-at-most : (n first second : ℕ) → inRange (second-limits n first) (pos second) ≡ passes → second ≤ n
+pub second-at-most : (n first second : ℕ) → inRange (second-limits n first) (pos second) ≡ passes → second ≤ n
 unfolding second-limits
 second-at-most n zero second e = omega (arith, in-range {low = 0} {high = 0} second e)
 second-at-most n (suc first) second e = in-range second e .1
 
-module _ (sheet : Sheet) (ranges : SheetInRange sheet) where
+module _ (sheet : Sheet) (ranges : SheetInRange most-steps sheet) where
   count-is : length (termsOf sheet) ≡ sheet .terms .count
   unfolding termsOf
   count-is = length-listed (sheet .terms)
@@ -75,7 +75,7 @@ module _ (sheet : Sheet) (ranges : SheetInRange sheet) where
       }
 
 pub bounds-of-sheet : (sheet : Sheet) → sheetVerdict sheet ≡ passes → TermsInBounds (termsOf sheet) (sheet .head .step) (sheet .head .n)
-bounds-of-sheet sheet passed = terms-in-bounds sheet (sheet-in-range sheet passed)
+bounds-of-sheet sheet passed = terms-in-bounds sheet (sheet-in-range most-steps sheet passed)
 
 -- ---- its counts and limits
 
@@ -93,7 +93,7 @@ pub record Counts (sheet : Sheet) : Type 0 where
 pub counts-of-sheet : (sheet : Sheet) → sheetVerdict sheet ≡ passes → Counts sheet
 unfolding n-limits steps-limits tail-limits tol-limits terms-limits
 counts-of-sheet sheet passed =
-    let ranges = sheet-in-range sheet passed in
+    let ranges = sheet-in-range most-steps sheet passed in
     record {
       n-high = in-range _ (ranges .head .n) .1;
       steps-high = in-range _ (ranges .head .steps) .1;
@@ -107,11 +107,16 @@ counts-of-sheet sheet passed =
 
 -- ---- a step
 
+-- question 4 answered yes
+pub each-small : (balls : List Ball) → small balls ≡ true → (i : ℕ) → i < length balls → reach (getD balls i no-ball) ≤ most
+unfolding small
+each-small balls is-small i h = leb-true (reach (getD balls i no-ball)) most (every-holds (length balls) (λ i. leb (reach (getD balls i no-ball)) most) is-small i h)
+
 pub bounds-of-step : {terms : List Term} {H : ℤ} (balls : List Ball) → TermsInBounds terms H (length balls) → small balls ≡ true → slow terms H balls ≡ true → InBounds terms H balls
-unfolding small slow
+unfolding slow
 bounds-of-step {terms} {H} balls sheet is-small is-slow =
     record {
       sheet = sheet;
-      small = λ i h. leb-true (reach (getD balls i no-ball)) most (every-holds (length balls) (λ i. leb (reach (getD balls i no-ball)) most) is-small i h);
+      small = each-small balls is-small;
       slow = leb-true (ratio terms H (length balls) (greatest balls)) most-ratio is-slow;
     }

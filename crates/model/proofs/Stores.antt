@@ -1,8 +1,8 @@
 -- Stores one after the other: of an append, of one number more, and of one entry more into an array. Assumes nothing.
 use Prim.Native.Nat.{ℕ, suc, _+_, _<_}
-use mathlib.Core.Path.{_≡_, ap, _∙_}
+use mathlib.Core.Path.{_≡_, sym, ap, _∙_}
 use mathlib.Core.List.{List, [], _∷_, _++_}
-use native.Mathlib.Nat.{add-zero}
+use native.Mathlib.Nat.{add-zero, zero-add}
 use native.Mathlib.Numerals.{add-one}
 use native.Mathlib.Omega.{arith}
 use borrow.Author.Count.{below-none, below-more}
@@ -24,6 +24,10 @@ module _ {A : Type 0} where
   unfolding tabulate
   stored-one-more entry i n f e =
       rw (e, add-one n, sets-append entry i (tabulate n f) (f n ∷ []), length-tabulate n f)
+
+  -- from the front on
+  pub stored-in-front : {l : List A} (entry : List A) (n : ℕ) (f : ℕ → A) → l ≡ sets entry 0 (tabulate n f) → set l n (f n) ≡ sets entry 0 (tabulate (n + 1) f)
+  stored-in-front {l} entry n f e = ap (λ (k : ℕ). set l k (f n)) (sym (zero-add n)) ∙ stored-one-more entry 0 n f e
 
   -- a list of so many places, of which the first i are f 0, .., f (i - 1); `d` is what is read past its end
   pub record Begins (f : ℕ → A) (d : A) (size i : ℕ) (l : List A) : Type 0 where

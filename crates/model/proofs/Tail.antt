@@ -1,19 +1,23 @@
--- The tail covers all that the orders after the degree add to the exact sum, whatever its degree.
--- It rests on the majorant's bound of each order, and on `up` not being below. Assumes nothing.
+-- The exact sum at a step of h ÷ w, by its summands: enclosures of the orders 0 .. d enclose the sum of degree d, and the tail covers all that the
+-- orders after d add, whatever the degree. It rests on the majorant's bound of each order, and on `up` not being below. Assumes nothing.
 use Prim.Native.Nat.{ℕ, zero, suc, _+_, _-_, _*_, _^_, _≤_, _<_}
 use mathlib.Core.List.{List}
-use mathlib.Core.Path.{_≡_}
-use native.Mathlib.Nat.{le-refl, add-zero, add-suc, suc-add, add-sub-of-le, pow-zero, pow-suc, mul-le-mul-right, le-of-mul-le-mul-right, one-le-pow}
+use mathlib.Core.Path.{_≡_, refl}
+use native.Mathlib.Nat.{le-refl, add-zero, add-suc, suc-add, zero-add, add-sub-of-le, pow-zero, pow-suc, mul-comm, mul-le-mul-right, le-of-mul-le-mul-right, one-le-pow}
 use native.Mathlib.Omega.{arith}
 use lib.Pow.{pow-add}
-use lib.IntN.{ℤ, pos, natAbs, _+ℤ_, _-ℤ_, _*ℤ_, pow, +ℤ-invr}
+use lib.IntN.{ℤ, pos, natAbs, _+ℤ_, _-ℤ_, _*ℤ_, pow, +ℤ-idl, +ℤ-invr, *ℤ-one}
 use Rattle.rounding.specs.Rounding.{up}
+use Rattle.rounding.specs.Enclosure.{Within}
+use Rattle.rounding.proofs.Enclosure.{within-sum, within-scaled}
 use Rattle.rounding.proofs.Integers.{ringℤ, ringℕ, abs-add, abs-mul}
 use Rattle.rounding.proofs.Roundings.{up-not-below}
+use Rattle.model.specs.Range.{sum, sumℤ}
 use Rattle.model.specs.Sheet.{scale}
 use Rattle.model.specs.Exact.{State, order, ordersTo, sumDenominator, sumNumerator}
 use Rattle.model.specs.Step.{majorant, tailAt}
 use Rattle.model.specs.declared.Term.{Term}
+use Rattle.model.proofs.Ranges.{within-same}
 use Rattle.model.proofs.Reach.{scale-positive}
 
 pow-parts : (b d n : ℕ) → b ^ suc (d + n) ≡ b ^ suc d * b ^ n
@@ -52,6 +56,19 @@ module _ (terms : List Term) (state : State) (h : ℤ) (w i : ℕ) where
 
   abbrev denominator : ℕ → ℕ
   denominator = sumDenominator (state .denominator) w
+
+  -- where each summand lies within e_k of c_k, the sum lies within their sum of theirs
+  pub sums-within : (c : ℕ → ℤ) (e : ℕ → ℕ) (d : ℕ) → ((k : ℕ) → k ≤ d → Within (summand k) (denominator k) (c k) (e k)) → Within (partialSum d) (denominator d) (sumℤ (suc d) c) (sum (suc d) e)
+  unfolding summand partialSum sumNumerator sumDenominator sum sumℤ pow
+  sums-within c e zero each = rw (+ℤ-idl, zero-add) (rw *ℤ-one at (each 0 (le-refl 0)))
+  sums-within c e (suc d) each =
+      within-same (out (pos growth) (pos scale) (sumNumerator terms state h w d i) (order (ordersTo terms state (suc d)) (suc d) i *ℤ pow h (suc d))) refl (within-sum (within-same refl (mul-comm growth (denominator d)) (within-scaled growth (sums-within c e d (λ k le. each k (omega arith))))) (each (suc d) (le-refl (suc d))))
+    where
+      growth : ℕ
+      growth = suc d * (state .denominator * (scale * w))
+
+      out : (q s n x : ℤ) → q *ℤ (s *ℤ n) +ℤ s *ℤ x ≡ s *ℤ (n *ℤ q +ℤ x)
+      out q s n x = simp ringℤ
 
   -- what the exact sums of degrees d and K differ by, over both denominators
   unfoldable pub apart : ℕ → ℕ → ℤ

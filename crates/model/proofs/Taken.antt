@@ -1,9 +1,9 @@
--- A step that was taken: questions 4 to 6 were answered yes, and its row is the rule's, with a ball for each that it started from and a degree of at
--- most 28. Assumes nothing.
+-- A step that was taken: questions 4 to 6 were answered yes, and its row is the rule's, with a ball and a span for each that it started from and a degree
+-- of at most 28. Assumes nothing.
 use Prim.Native.Nat.{ℕ, _≤_}
 use mathlib.Core.Bool.{Bool, true, false}
 use mathlib.Core.List.{List}
-use mathlib.Core.Path.{_≡_, refl}
+use mathlib.Core.Path.{_≡_, refl, _∙_}
 use native.Mathlib.Omega.{arith}
 use borrow.Author.Tests.{leb-true}
 use lib.Dec.{leb}
@@ -17,11 +17,16 @@ use Rattle.model.specs.declared.Refusal.the-variants.{TooLarge, StepTooL
 use Rattle.model.specs.declared.Term.{Term}
 use Rattle.model.proofs.Least.{least-le}
 use Rattle.model.proofs.Ranges.{length-tabulate}
+use Rattle.model.proofs.Rows.{Quantities}
 use Rattle.model.proofs.Verdicts.{every-holds}
 
 pub length-row : (terms : List Term) (H : ℤ) (limit : ℕ) (balls : List Ball) → length (stepRow terms H limit balls .balls) ≡ length balls
 unfolding stepRow newRow
 length-row terms H limit balls = length-tabulate (length balls) _
+
+spans-of-row : (terms : List Term) (H : ℤ) (limit : ℕ) (balls : List Ball) → length (stepRow terms H limit balls .spans) ≡ length balls
+unfolding stepRow newRow
+spans-of-row terms H limit balls = length-tabulate (length balls) _
 
 pub all-tolerated : (tol : ℕ) (balls : List Ball) → tolerable tol balls ≡ true → Tolerated tol balls
 unfolding tolerable
@@ -52,6 +57,10 @@ module _ (terms : List Term) (H : ℤ) (limit tol : ℕ) where
 
     pub quantities-stay : length (row .balls) ≡ length balls
     quantities-stay = rw (step-taken .is-row) (length-row terms H limit balls)
+
+    pub row-of-quantities : {n : ℕ} → length balls ≡ n → Quantities n row
+    row-of-quantities l =
+        record { balls = quantities-stay ∙ l; spans = rw (step-taken .is-row) (spans-of-row terms H limit balls ∙ l) }
 
     pub degree-at-most : row .degree ≤ most-degree
     unfolding stepRow newRow degree

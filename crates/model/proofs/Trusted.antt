@@ -35,7 +35,7 @@ module _ (terms : List Term) (H : ℤ) where
   state-shifts K degrees state zero = refl
   state-shifts K degrees state (suc j) = ap (exactSum terms H scale (getD degrees j 0)) (state-shifts K degrees state j)
 
-  no-rows-trusted : (tol : ℕ) (balls : List Ball) → Trusted terms H tol balls []
+  pub no-rows-trusted : (tol : ℕ) (balls : List Ball) → Trusted terms H tol balls []
   unfolding Trusted
   no-rows-trusted tol balls state within degrees lower j lt = absurd (omega arith)
 

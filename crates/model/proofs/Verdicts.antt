@@ -12,7 +12,7 @@ use lib.IntN.{ℤ, pos, negsuc, negℤ, natAbs}
 use lib.ListN.{getD}
 use lib.Signed.{leZ}
 use Rattle.model.specs.Range.{every}
-use Rattle.model.specs.Sheet.{most-quantities, most-steps, Verdict, passes, refuses, ask, _then_, inOrder, from_to_, ±_, within, scale, n-limits, steps-limits, step-limits, stepWithin, tail-limits, tol-limits, terms-limits, to-limits, coef-limits, first-limits, second-limits, inRange, stepVerdict, headVerdict, quantityVerdict, quantitiesVerdict, termVerdict, termsVerdict, no-quantity, no-term, sheetVerdictTo, sheetVerdict}
+use Rattle.model.specs.Sheet.{most-quantities, Verdict, passes, refuses, ask, _then_, inOrder, from_to_, ±_, within, scale, n-limits, steps-limits, step-limits, stepWithin, tail-limits, tol-limits, terms-limits, to-limits, coef-limits, first-limits, second-limits, inRange, stepVerdict, headVerdict, quantityVerdict, quantitiesVerdict, termVerdict, termsVerdict, no-quantity, no-term, sheetVerdictTo}
 use Rattle.model.specs.declared.Refusal.{Refusal}
 use Rattle.model.specs.declared.Refusal.the-variants.{OutOfRange}
 use Rattle.model.specs.declared.Head.{Head}
@@ -37,7 +37,7 @@ each-passes (suc n) f e i lt =
     let both = both-pass (inOrder n f) (f n) e in
     ⊎-elim (λ (h : i ≡ n). rw h (both .1)) (λ (h : i < n). each-passes n f (both .0) i h) (eq-or-lt-of-le {n = i} {m = n} (omega arith))
 
-pass-then : {a b : Verdict} → a ≡ passes → b ≡ passes → (a then b) ≡ passes
+pub pass-then : {a b : Verdict} → a ≡ passes → b ≡ passes → (a then b) ≡ passes
 unfolding _then_
 pass-then p q = ap₂ (λ (earlier later : Verdict). earlier then later) p q
 
@@ -152,29 +152,34 @@ pub few-quantities : (high : ℕ) (head : Head) → headVerdict high head ≡ pa
 unfolding n-limits
 few-quantities high head e = in-range {low = 1} {high = most-quantities} (head .n) (head-in-range high head e .n) .1
 
-pub record SheetInRange (sheet : Sheet) : Type 0 where
-  pub head : HeadInRange most-steps (sheet .head)
+-- a sheet of at most so many steps
+pub record SheetInRange (high : ℕ) (sheet : Sheet) : Type 0 where
+  pub head : HeadInRange high (sheet .head)
   pub quantity : (i : ℕ) → i < sheet .head .n → quantityVerdict (getD (sheet .quantities) i no-quantity) ≡ passes
   pub terms : inRange terms-limits (pos (sheet .terms .count)) ≡ passes
   pub term : (j : ℕ) → j < sheet .terms .count → TermInRange (sheet .head .n) (getD (sheet .terms .list) j no-term)
 
-pub sheet-in-range : (sheet : Sheet) → sheetVerdict sheet ≡ passes → SheetInRange sheet
+pub sheet-in-range : (high : ℕ) (sheet : Sheet) → sheetVerdictTo high sheet ≡ passes → SheetInRange high sheet
 unfolding sheetVerdictTo quantitiesVerdict termsVerdict
-sheet-in-range sheet e =
-    let a = both-pass (headVerdict most-steps (sheet .head)) _ e in
+sheet-in-range high sheet e =
+    let a = both-pass (headVerdict high (sheet .head)) _ e in
     let b = both-pass (quantitiesVerdict (sheet .head .n) (sheet .quantities)) _ (a .1) in
     let c = both-pass (inRange terms-limits (pos (sheet .terms .count))) _ (b .1) in
     record {
-      head = head-in-range most-steps (sheet .head) (a .0);
+      head = head-in-range high (sheet .head) (a .0);
       quantity = each-passes (sheet .head .n) (λ i. quantityVerdict (getD (sheet .quantities) i no-quantity)) (b .0);
       terms = c .0;
       term = λ j lt. term-in-range (sheet .head .n) (getD (sheet .terms .list) j no-term) (each-passes (sheet .terms .count) (λ j. termVerdict (sheet .head .n) (getD (sheet .terms .list) j no-term)) (c .1) j lt);
     }
 
+pub few-in-sheet : (high : ℕ) (sheet : Sheet) → sheetVerdictTo high sheet ≡ passes → sheet .head .n ≤ most-quantities
+unfolding n-limits
+few-in-sheet high sheet passed = in-range _ (sheet-in-range high sheet passed .head .n) .1
+
 -- and every sheet that is in range in every field passes
-pub in-range-passes : (sheet : Sheet) → SheetInRange sheet → sheetVerdict sheet ≡ passes
+pub in-range-passes : (high : ℕ) (sheet : Sheet) → SheetInRange high sheet → sheetVerdictTo high sheet ≡ passes
 unfolding sheetVerdictTo headVerdict quantitiesVerdict termsVerdict termVerdict
-in-range-passes sheet r =
+in-range-passes high sheet r =
     pass-then (pass-then (r .head .n) (pass-then (r .head .steps) (pass-then (r .head .step) (pass-then (r .head .tail) (r .head .tol))))) (pass-then (all-pass (sheet .head .n) _ (r .quantity)) (pass-then (r .terms) (all-pass (sheet .terms .count) _ term)))
   where
     term : (j : ℕ) → j < sheet .terms .count → termVerdict (sheet .head .n) (getD (sheet .terms .list) j no-term) ≡ passes

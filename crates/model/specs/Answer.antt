@@ -9,7 +9,7 @@ use lib.IntN.{ℤ, pos, negsuc}
 use Rattle.model.specs.Range.{bytes}
 use Rattle.model.specs.Sheet.{result, refusedStep}
 use Rattle.model.specs.Reading.{readSheet}
-use Rattle.model.specs.Step.{Ball, Row}
+use Rattle.model.specs.Step.{Ball, Span, Row}
 use Rattle.model.specs.Passage.{Run, refused, run}
 use Rattle.model.specs.declared.Outcome.{Outcome}
 use Rattle.model.specs.declared.Outcome.the-variants.{Accepted, Refused}
@@ -33,16 +33,22 @@ decimal (negsuc n) = code "-" ∷ decimalBy (suc n) (suc n)
 unfoldable pub printed : String → ℤ → List ℕ
 printed key z = bytes key ++ bytes "=" ++ decimal z ++ bytes "\n"
 
--- two lines for each quantity
-unfoldable pub ballsText : List Ball → List ℕ
-ballsText [] = []
-ballsText (ball ∷ balls) = printed "value" (ball .value) ++ printed "radius" (pos (ball .radius)) ++ ballsText balls
+-- four lines for each quantity; a row has as many spans as balls
+unfoldable pub quantitiesText : List Ball → List Span → List ℕ
+quantitiesText [] spans = []
+quantitiesText (ball ∷ balls) [] = []
+quantitiesText (ball ∷ balls) (span ∷ spans) =
+    printed "value" (ball .value) ++
+    printed "radius" (pos (ball .radius)) ++
+    printed "low" (span .low) ++
+    printed "high" (span .high) ++
+    quantitiesText balls spans
 
 -- the rows, the first of them with this number
 unfoldable pub rowsText : ℕ → List Row → List ℕ
 rowsText number [] = []
 rowsText number (row ∷ rows) =
-    printed "row" (pos number) ++ printed "degree" (pos (row .degree)) ++ ballsText (row .balls) ++ rowsText (suc number) rows
+    printed "row" (pos number) ++ printed "degree" (pos (row .degree)) ++ quantitiesText (row .balls) (row .spans) ++ rowsText (suc number) rows
 
 -- the last two lines
 unfoldable pub outcomeText : Outcome → List ℕ

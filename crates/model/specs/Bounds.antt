@@ -8,7 +8,7 @@ use lib.IntN.{ℤ, natAbs}
 use lib.ListN.{length, getD}
 use Rattle.model.specs.Range.{sum}
 use Rattle.model.specs.Sheet.{scale, most, most-terms, most-coef, no-term}
-use Rattle.model.specs.Step.{Ball, no-ball, reach, greatest, ratio, most-degree, Row}
+use Rattle.model.specs.Step.{Ball, no-ball, reach, greatest, ratio, most-degree, no-span, Row}
 use Rattle.model.specs.Rows.{rowIn}
 use Rattle.model.specs.Passage.{most-ratio}
 use Rattle.model.specs.declared.Term.{Term}
@@ -47,11 +47,17 @@ pub record InBounds (terms : List Term) (H : ℤ) (balls : List Ball) : Type 0 w
 abbrev pub most-value : ℕ
 most-value = 3 * most
 
+-- the most that a low or a high is, without its sign: 2^31
+abbrev pub most-span : ℕ
+most-span = 4 * most
+
 -- What the functions that print ask of a row, so that no number has more than ten digits. Every row of a passage has it (proofs/RowRange.antt).
 pub record Printable (row : Row) : Type 0 where
   pub degree : row .degree ≤ most-degree
   pub values : (i : ℕ) → i < length (row .balls) → natAbs (getD (row .balls) i no-ball .value) ≤ most-value
   pub radii : (i : ℕ) → i < length (row .balls) → getD (row .balls) i no-ball .radius ≤ most
+  pub lows : (i : ℕ) → i < length (row .spans) → natAbs (getD (row .spans) i no-span .low) ≤ most-span
+  pub highs : (i : ℕ) → i < length (row .spans) → natAbs (getD (row .spans) i no-span .high) ≤ most-span
 
 -- The same of so many rows of n quantities, as they stand in a buffer.
 abbrev pub RowsPrintable : ℕ → ℕ → List ℤ → Type 0

@@ -11,13 +11,14 @@ use lib.IntN.{ℤ, pos, negsuc, negℤ, _+ℤ_, _-ℤ_}
 use lib.ListN.{length, take, drop, replicate}
 use Rattle.rounding.specs.Rounding.{near, up}
 use Rattle.model.specs.Range.{bytes}
-use Rattle.model.specs.Sheet.{most-steps, result, Gives, within, n-limits, steps-limits, stepWithin, tail-limits, tol-limits, start-limits, radius-limits, terms-limits, to-limits, coef-limits, first-limits, second-limits, quantitiesHeld, termsHeld, termsOf}
+use Rattle.model.specs.Sheet.{most-steps, stored-steps, result, Gives, within, n-limits, steps-limits, stepWithin, tail-limits, tol-limits, start-limits, radius-limits, terms-limits, to-limits, coef-limits, first-limits, second-limits, quantitiesHeld, termsHeld, termsOf}
 use Rattle.model.specs.Reading.{Spelled, spelled, wrong, natural, signed, readSheetTo, readSheet}
 use Rattle.model.specs.LikeTerms.{gathered}
 use Rattle.model.specs.Step.{Row}
 use Rattle.model.specs.Passage.{passage}
 use Rattle.model.specs.Rows.{written}
 use Rattle.model.specs.Answer.{decimal, runOf, answer}
+use Rattle.model.specs.Conversion.{converted}
 use Rattle.model.specs.declared.Outcome.the-variants.{Accepted}
 use Rattle.model.specs.declared.Start.the-variants.{Reading, Missing}
 use Rattle.model.specs.declared.Quantity.{Quantity}
@@ -56,6 +57,8 @@ pub data Case : Type 0 where
   takes : ℕ → String → ℕ → Case
   -- a sheet given as numbers, with no places lent, is refused by this number, before step 1
   judged : Sheet → ℕ → Case
+  -- a stored sheet is converted into this text
+  converts : String → String → Case
   -- the one list of terms is gathered into the other
   gathers : List Term → List Term → Case
   -- a range has these ends, and the numbers next to them are outside
@@ -67,7 +70,9 @@ pub data Case : Type 0 where
 unfoldable pub Holds : Case → Type 0
 Holds (prints sheet text) = answer (bytes sheet) ≡ bytes text
 Holds (opens sheet degree value radius) =
-    WasRead sheet × (firstRow sheet ≡ record { degree = degree; balls = record { value = value; radius = radius } ∷ [] } ∷ [])
+    WasRead sheet
+    × (map (λ row. row .degree) (firstRow sheet) ≡ degree ∷ [])
+    × (map (λ row. row .balls) (firstRow sheet) ≡ (record { value = value; radius = radius } ∷ []) ∷ [])
 Holds (opensAt sheet degree) = WasRead sheet × (map (λ row. row .degree) (firstRow sheet) ≡ degree ∷ [])
 Holds (ends sheet number step) = WasRead sheet × Gives (runOf (bytes sheet) .outcome) number step
 Holds (lent sheet places number) = WasRead sheet × Gives (passage (readSheet (bytes sheet) .sheet) places .outcome) number 0
@@ -82,6 +87,7 @@ Holds (alone sheet) =
 Holds (garbled count number) = Gives (runOf (replicate count (code "n")) .outcome) number 0
 Holds (takes high sheet number) = result (readSheetTo high (bytes sheet) .outcome) ≡ number
 Holds (judged sheet number) = Gives (passage sheet 0 .outcome) number 0
+Holds (converts sheet text) = converted (bytes sheet) ≡ bytes text
 Holds (gathers terms into) = gathered terms ≡ into
 Holds (spans range low high) =
     (map range (low ∷ high ∷ []) ≡ true ∷ true ∷ []) × (map range ((low -ℤ pos 1) ∷ (high +ℤ pos 1) ∷ []) ≡ false ∷ false ∷ [])
@@ -94,8 +100,8 @@ AllHold [] = Unit {0}
 AllHold (case ∷ rest) = Holds case × AllHold rest
 
 -- one quantity: n, steps, step, tail, tol, start, radius, and then the terms
-unfoldable pub sheetText : String → String → String → String → String → String → String → String
-sheetText steps step tail tol start radius terms =
+unfoldable pub sheetLines : String → String → String → String → String → String → String → String
+sheetLines steps step tail tol start radius terms =
     "n=1\nsteps=" & steps & "\nstep=" & step & "\ntail=" & tail & "\ntol=" & tol & "\nstart=" & start & "\nradius=" & radius & "\nterms=" & terms
 
 -- no terms
@@ -103,12 +109,12 @@ unfoldable pub none : String
 none = "0\n"
 
 -- a term: its target, its coefficient and its factors
-unfoldable pub termText : String → String → String → String → String
-termText to coef first second = "to=" & to & "\ncoef=" & coef & "\nfirst=" & first & "\nsecond=" & second & "\n"
+unfoldable pub termLines : String → String → String → String → String
+termLines to coef first second = "to=" & to & "\ncoef=" & coef & "\nfirst=" & first & "\nsecond=" & second & "\n"
 
 -- one term with these factors, its coefficient one whole
 unfoldable pub one : String → String → String
-one first second = "1\n" & termText "1" "16777216" first second
+one first second = "1\n" & termLines "1" "16777216" first second
 
 -- a reading with a radius
 unfoldable pub reading : ℕ → ℕ → Quantity
@@ -139,15 +145,45 @@ two step tol =
 
 -- sounding A with these terms, and its answer with its own, x' = x × x
 unfoldable pub A : String → String
-A terms = sheetText "1" "4194304" "349526" "349534" "16777216" "0" terms
+A terms = sheetLines "1" "4194304" "349526" "349534" "16777216" "0" terms
 
 unfoldable pub A-answer : String
-A-answer = "row=1\ndegree=2\nvalue=22020096\nradius=349534\nresult=0\nat=0\n"
+A-answer = "row=1\ndegree=2\nvalue=22020096\nradius=349534\nlow=11184802\nhigh=22369630\nresult=0\nat=0\n"
+
+-- A with so many steps
+unfoldable pub A-of : String → String → String
+A-of steps terms = sheetLines steps "4194304" "349526" "349534" "16777216" "0" terms
+
+-- no terms, with so many steps, a start and a radius
+unfoldable pub still : String → String → String → String
+still steps start radius = sheetLines steps "4194304" "349526" "7" start radius none
+
+-- x' = 1, with so many steps, a step, a tail, a start and a radius
+unfoldable pub rising : String → String → String → String → String → String
+rising steps step tail start radius = sheetLines steps step tail "536870912" start radius (one "0" "0")
+
+-- x' = 1 and y' = a × y × y, with so many steps, a start and radius of x and a radius of y about 0: the ratio grows with x
+unfoldable pub quickening : String → String → String → String → String
+quickening steps start radius other =
+    "n=2\nsteps=" & steps & "\nstep=167772\ntail=1000\ntol=536870912\nstart=" & start & "\nradius=" & radius & "\nstart=0\nradius=" & other & "\nterms=2\n"
+    & termLines "1" "16777216" "0" "0" & termLines "2" "246094005" "2" "2"
+
+-- the same with a tolerance that the radius passes at step 241
+unfoldable pub tolerating : String → String → String → String
+tolerating steps start radius = sheetLines steps "4473000" "1000" "88986" start radius (one "0" "0")
 
 -- terms on x × x with these coefficients
 unfoldable pub squares : List String → String
 squares [] = ""
-squares (coef ∷ coefs) = termText "1" coef "1" "1" & squares coefs
+squares (coef ∷ coefs) = termLines "1" coef "1" "1" & squares coefs
+
+-- no change, over so many steps back with these terms
+unfoldable pub still-by : String → String → String
+still-by steps terms = sheetLines steps "-4194304" "349526" "7" "-5" "7" terms
+
+-- a lone 0 and two terms that cancel
+unfoldable pub cancelling : String
+cancelling = "3\n" & termLines "1" "0" "1" "0" & squares ("5" ∷ "-5" ∷ [])
 
 -- two quantities of one whole, and then the terms
 unfoldable pub wholes : String → String
@@ -163,24 +199,24 @@ cases =
     -- A
     prints (A square) A-answer
     -- B
-    ∷ opens (sheetText "1" "4194304" "349525" "87393" "16777216" "0" square) 3 (pos 22282240) 87393
+    ∷ opens (sheetLines "1" "4194304" "349525" "87393" "16777216" "0" square) 3 (pos 22282240) 87393
     -- C
-    ∷ prints (sheetText "1" "4194304" "349526" "349533" "16777216" "0" square) "result=8\nat=1\n"
+    ∷ prints (sheetLines "1" "4194304" "349526" "349533" "16777216" "0" square) "result=8\nat=1\n"
     -- D
-    ∷ opensAt (sheetText "1" "8388608" "349526" "349534" "16777216" "0" square) 6
-    ∷ ends (sheetText "1" "8388609" "349526" "349534" "16777216" "0" square) 7 1
+    ∷ opensAt (sheetLines "1" "8388608" "349526" "349534" "16777216" "0" square) 6
+    ∷ ends (sheetLines "1" "8388609" "349526" "349534" "16777216" "0" square) 7 1
     -- E
-    ∷ opens (sheetText "1" "8388608" "2" "49" "0" "0" (one "0" "0")) 23 (pos 8388608) 49
+    ∷ opens (sheetLines "1" "8388608" "2" "49" "0" "0" (one "0" "0")) 23 (pos 8388608) 49
     -- F
-    ∷ prints (sheetText "1" "4194304" "349526" "7" "-5" "7" none) "row=1\ndegree=0\nvalue=-5\nradius=7\nresult=0\nat=0\n"
-    ∷ prints (sheetText "2" "4194304" "349526" "7" "-5" "7" none) "row=1\ndegree=0\nvalue=-5\nradius=7\nrow=2\ndegree=0\nvalue=-5\nradius=7\nresult=0\nat=0\n"
+    ∷ prints (sheetLines "1" "4194304" "349526" "7" "-5" "7" none) "row=1\ndegree=0\nvalue=-5\nradius=7\nlow=-12\nhigh=2\nresult=0\nat=0\n"
+    ∷ prints (sheetLines "2" "4194304" "349526" "7" "-5" "7" none) "row=1\ndegree=0\nvalue=-5\nradius=7\nlow=-12\nhigh=2\nrow=2\ndegree=0\nvalue=-5\nradius=7\nlow=-12\nhigh=2\nresult=0\nat=0\n"
     -- G
-    ∷ ends (sheetText "1" "4194304" "349526" "1" "536870912" "0" none) 0 0
-    ∷ ends (sheetText "1" "4194304" "349526" "1" "536870912" "1" none) 6 1
+    ∷ ends (sheetLines "1" "4194304" "349526" "1" "536870912" "0" none) 0 0
+    ∷ ends (sheetLines "1" "4194304" "349526" "1" "536870912" "1" none) 6 1
     -- H
-    ∷ opensAt (sheetText "1" "8388608" "2" "536870912" "536870912" "0" (one "1" "0")) 28
+    ∷ opensAt (sheetLines "1" "8388608" "2" "536870912" "536870912" "0" (one "1" "0")) 28
     -- a value of ten digits and a minus
-    ∷ prints (sheetText "1" "-262144" "2" "536870912" "-536870912" "0" square) "row=1\ndegree=28\nvalue=-1073741822\nradius=73\nresult=0\nat=0\n"
+    ∷ prints (sheetLines "1" "-262144" "2" "536870912" "-536870912" "0" square) "row=1\ndegree=28\nvalue=-1073741822\nradius=73\nlow=-1073741895\nhigh=71\nresult=0\nat=0\n"
     -- I
     ∷ nearIs (pos 3) 2 (pos 2)
     ∷ nearIs (negsuc 2) 2 (negsuc 1)
@@ -189,49 +225,50 @@ cases =
     ∷ upIs 1 2 1
     ∷ upIs 0 7 0
     -- J
-    ∷ lent (sheetText "2" "4194304" "349526" "349534" "0" "0" none) 6 0
-    ∷ lent (sheetText "2" "4194304" "349526" "349534" "0" "0" none) 5 5
+    ∷ lent (sheetLines "2" "4194304" "349526" "349534" "0" "0" none) 10 0
+    ∷ lent (sheetLines "2" "4194304" "349526" "349534" "0" "0" none) 9 5
     -- A, D, E and a term of one factor with the step back, and two quantities over two steps: Q alone keeps the step's sign, every size has |H|
-    ∷ prints (sheetText "1" "-4194304" "349526" "349534" "16777216" "0" square) "row=1\ndegree=2\nvalue=13631488\nradius=349534\nresult=0\nat=0\n"
-    ∷ opensAt (sheetText "1" "-8388608" "349526" "349534" "16777216" "0" square) 6
-    ∷ ends (sheetText "1" "-8388609" "349526" "349534" "16777216" "0" square) 7 1
-    ∷ opens (sheetText "1" "-8388608" "2" "49" "0" "0" (one "0" "0")) 23 (negℤ (pos 8388608)) 49
-    ∷ opens (sheetText "1" "-8388608" "2" "51" "16777216" "0" (one "1" "0")) 23 (pos 10175897) 51
-    ∷ prints (two "-4194304" "536870912") "row=1\ndegree=3\nvalue=14406997\nradius=87396\nvalue=10594987\nradius=87400\nrow=2\ndegree=2\nvalue=11473932\nradius=462862\nvalue=12904591\nradius=478082\nresult=0\nat=0\n"
+    ∷ prints (sheetLines "1" "-4194304" "349526" "349534" "16777216" "0" square) "row=1\ndegree=2\nvalue=13631488\nradius=349534\nlow=11184802\nhigh=22369630\nresult=0\nat=0\n"
+    ∷ opensAt (sheetLines "1" "-8388608" "349526" "349534" "16777216" "0" square) 6
+    ∷ ends (sheetLines "1" "-8388609" "349526" "349534" "16777216" "0" square) 7 1
+    ∷ opens (sheetLines "1" "-8388608" "2" "49" "0" "0" (one "0" "0")) 23 (negℤ (pos 8388608)) 49
+    ∷ opens (sheetLines "1" "-8388608" "2" "51" "16777216" "0" (one "1" "0")) 23 (pos 10175897) 51
+    ∷ prints (two "-4194304" "536870912") "row=1\ndegree=3\nvalue=14406997\nradius=87396\nlow=14319601\nhigh=19234831\nvalue=10594987\nradius=87400\nlow=6051139\nhigh=10726077\nrow=2\ndegree=2\nvalue=11473932\nradius=462862\nlow=11011070\nhigh=17802924\nvalue=12904591\nradius=478082\nlow=7807301\nhigh=13382673\nresult=0\nat=0\n"
     -- two quantities, refused at step 2: the text, and the lent buffer with a place more than its rows need
-    ∷ prints (two "4194304" "100000") "row=1\ndegree=3\nvalue=18623147\nradius=87396\nvalue=6444373\nradius=87400\nresult=8\nat=2\n"
-    ∷ leaves (two "4194304" "100000") (replicate 11 (pos 7)) (pos 3 ∷ pos 18623147 ∷ pos 6444373 ∷ pos 87396 ∷ pos 87400 ∷ replicate 6 (pos 7))
+    ∷ prints (two "4194304" "100000") "row=1\ndegree=3\nvalue=18623147\nradius=87396\nlow=14319601\nhigh=19234831\nvalue=6444373\nradius=87400\nlow=6051139\nhigh=10726077\nresult=8\nat=2\n"
+    ∷ leaves (two "4194304" "100000") (replicate 19 (pos 7)) (pos 3 ∷ pos 18623147 ∷ pos 6444373 ∷ pos 87396 ∷ pos 87400 ∷ pos 14319601 ∷ pos 6051139 ∷ pos 19234831 ∷ pos 10726077 ∷ replicate 10 (pos 7))
     -- questions 1 and 2: a sheet with a byte more, no byte at all, a number of nine digits and one of ten, what stands past the counts, texts of the
     -- most bytes and of one more
-    ∷ prints (sheetText "1" "4194304" "349526" "349534" "16777216" "0" square & "\n") "result=2\nat=0\n"
+    ∷ prints (sheetLines "1" "4194304" "349526" "349534" "16777216" "0" square & "\n") "result=2\nat=0\n"
     ∷ garbled 0 2
-    ∷ prints (sheetText "1" "4194304" "349526" "349534" "999999999" "0" square) "result=3\nat=0\n"
-    ∷ prints (sheetText "1" "4194304" "349526" "349534" "1000000000" "0" square) "result=2\nat=0\n"
-    ∷ alone (sheetText "1" "4194304" "349526" "349534" "16777216" "0" square)
+    ∷ prints (sheetLines "1" "4194304" "349526" "349534" "999999999" "0" square) "result=3\nat=0\n"
+    ∷ prints (sheetLines "1" "4194304" "349526" "349534" "1000000000" "0" square) "result=2\nat=0\n"
+    ∷ alone (sheetLines "1" "4194304" "349526" "349534" "16777216" "0" square)
     ∷ garbled 4096 2
     ∷ garbled 4097 1
     -- a line: its spelling and its line feed decide before its range, and it before the lines below; `none` is a start's alone
-    ∷ prints (sheetText "1" "4194304" "349526" "349534" "999999999 " "0" square) "result=2\nat=0\n"
-    ∷ prints (sheetText "1" "4194304" "349526" "349534" "16777216" "0" "33") "result=2\nat=0\n"
-    ∷ prints (sheetText "1" "04194304" "349526" "349534" "16777216" "0" square) "result=2\nat=0\n"
-    ∷ prints (sheetText "1" "4194304" "349526" "349534" "-0" "0" square) "result=2\nat=0\n"
-    ∷ prints (sheetText "1" "4194304" "349526" "349534" "16777216" "-1" square) "result=2\nat=0\n"
-    ∷ prints (sheetText "401" "none" "349526" "349534" "16777216" "0" square) "result=3\nat=0\n"
-    ∷ prints (sheetText "400" "none" "349526" "349534" "16777216" "0" square) "result=2\nat=0\n"
-    ∷ prints (sheetText "1" "4194304" "349526" "349534" "none" "none" square) "result=4\nat=0\n"
+    ∷ prints (sheetLines "1" "4194304" "349526" "349534" "999999999 " "0" square) "result=2\nat=0\n"
+    ∷ prints (sheetLines "1" "4194304" "349526" "349534" "16777216" "0" "33") "result=2\nat=0\n"
+    ∷ prints (sheetLines "1" "04194304" "349526" "349534" "16777216" "0" square) "result=2\nat=0\n"
+    ∷ prints (sheetLines "1" "4194304" "349526" "349534" "-0" "0" square) "result=2\nat=0\n"
+    ∷ prints (sheetLines "1" "4194304" "349526" "349534" "16777216" "-1" square) "result=2\nat=0\n"
+    ∷ prints (sheetLines "241" "none" "349526" "349534" "16777216" "0" square) "result=3\nat=0\n"
+    ∷ prints (sheetLines "240" "none" "349526" "349534" "16777216" "0" square) "result=2\nat=0\n"
+    ∷ prints (sheetLines "1" "4194304" "349526" "349534" "none" "none" square) "result=4\nat=0\n"
     -- the step: a minus, never before 0; 0 and a step of more than one whole are spelled rightly, ten digits are not; the ends of its range
-    ∷ prints (sheetText "1" "0" "349526" "349534" "16777216" "0" square) "result=3\nat=0\n"
-    ∷ prints (sheetText "1" "-0" "349526" "349534" "16777216" "0" square) "result=2\nat=0\n"
-    ∷ prints (sheetText "1" "-16777216" "349526" "349534" "16777216" "0" square) "result=7\nat=1\n"
-    ∷ prints (sheetText "1" "-16777217" "349526" "349534" "16777216" "0" square) "result=3\nat=0\n"
-    ∷ prints (sheetText "1" "-1000000000" "349526" "349534" "16777216" "0" square) "result=2\nat=0\n"
-    ∷ opens (sheetText "1" "-1" "349526" "349534" "16777216" "0" square) 0 (pos 16777216) 2
-    ∷ opens (sheetText "1" "1" "349526" "349534" "16777216" "0" square) 0 (pos 16777216) 2
-    ∷ prints (sheetText "1" "16777216" "349526" "349534" "16777216" "0" square) "result=7\nat=1\n"
-    ∷ prints (sheetText "1" "16777217" "349526" "349534" "16777216" "0" square) "result=3\nat=0\n"
+    ∷ prints (sheetLines "1" "0" "349526" "349534" "16777216" "0" square) "result=3\nat=0\n"
+    ∷ prints (sheetLines "1" "-0" "349526" "349534" "16777216" "0" square) "result=2\nat=0\n"
+    ∷ prints (sheetLines "1" "-16777216" "349526" "349534" "16777216" "0" square) "result=7\nat=1\n"
+    ∷ prints (sheetLines "1" "-16777217" "349526" "349534" "16777216" "0" square) "result=3\nat=0\n"
+    ∷ prints (sheetLines "1" "-1000000000" "349526" "349534" "16777216" "0" square) "result=2\nat=0\n"
+    ∷ opens (sheetLines "1" "-1" "349526" "349534" "16777216" "0" square) 0 (pos 16777216) 2
+    ∷ opens (sheetLines "1" "1" "349526" "349534" "16777216" "0" square) 0 (pos 16777216) 2
+    ∷ prints (sheetLines "1" "16777216" "349526" "349534" "16777216" "0" square) "result=7\nat=1\n"
+    ∷ prints (sheetLines "1" "16777217" "349526" "349534" "16777216" "0" square) "result=3\nat=0\n"
     -- the range of each field
     ∷ spans (within n-limits) (pos 1) (pos 8)
-    ∷ spans (within (steps-limits most-steps)) (pos 1) (pos 400)
+    ∷ spans (within (steps-limits most-steps)) (pos 1) (pos 240)
+    ∷ spans (within (steps-limits stored-steps)) (pos 1) (pos 400)
     ∷ spans stepWithin (negℤ (pos 16777216)) (negℤ (pos 1))
     ∷ spans stepWithin (pos 1) (pos 16777216)
     ∷ spans (within tail-limits) (pos 2) (pos 16777216)
@@ -244,13 +281,13 @@ cases =
     ∷ spans (within (first-limits 5)) (pos 0) (pos 5)
     ∷ spans (within (second-limits 5 3)) (pos 0) (pos 5)
     ∷ spans (within (second-limits 5 0)) (pos 0) (pos 0)
-    ∷ judged (given 400 (pos 1) 1 (reading 0 0 ∷ []) 0) 5
-    ∷ judged (given 401 (pos 1) 1 (reading 0 0 ∷ []) 0) 3
+    ∷ judged (given 240 (pos 1) 1 (reading 0 0 ∷ []) 0) 5
+    ∷ judged (given 241 (pos 1) 1 (reading 0 0 ∷ []) 0) 3
     ∷ judged (given 1 (negℤ (pos 16777216)) 1 (reading 0 0 ∷ []) 0) 5
     ∷ judged (given 1 (negℤ (pos 16777217)) 1 (reading 0 0 ∷ []) 0) 3
     ∷ judged (given 1 (pos 0) 1 (reading 0 0 ∷ []) 0) 3
-    ∷ takes 401 (sheetText "401" "4194304" "349526" "349534" "16777216" "0" square) 0
-    ∷ takes 401 (sheetText "402" "4194304" "349526" "349534" "16777216" "0" square) 3
+    ∷ takes 401 (sheetLines "401" "4194304" "349526" "349534" "16777216" "0" square) 0
+    ∷ takes 401 (sheetLines "402" "4194304" "349526" "349534" "16777216" "0" square) 3
     -- question 3: 3 and 4 in the order of the fields, and 5 after them
     ∷ judged (given 1 (pos 1) 0 (missing 0 ∷ []) 0) 3
     ∷ judged (given 1 (pos 1) 1 (missing 536870913 ∷ []) 0) 4
@@ -263,21 +300,41 @@ cases =
     ∷ judged (given 1 (pos 1) 1 (reading 0 0 ∷ []) 0) 5
     -- like terms: two that cancel wholly; two that nearly do, of which the first alone is refused; all are added before any drops out; a lone 0; the
     -- same factors in either order
-    ∷ prints (A ("2\n" & squares ("16777216" ∷ "-16777216" ∷ []))) "row=1\ndegree=0\nvalue=16777216\nradius=0\nresult=0\nat=0\n"
+    ∷ prints (A ("2\n" & squares ("16777216" ∷ "-16777216" ∷ []))) "row=1\ndegree=0\nvalue=16777216\nradius=0\nlow=16777216\nhigh=16777216\nresult=0\nat=0\n"
     ∷ prints (A ("2\n" & squares ("268435456" ∷ "-251658240" ∷ []))) A-answer
     ∷ prints (A ("1\n" & squares ("268435456" ∷ []))) "result=7\nat=1\n"
     ∷ prints (A ("3\n" & squares ("5" ∷ "-5" ∷ "16777216" ∷ []))) A-answer
-    ∷ prints (A ("2\n" & termText "1" "0" "1" "0" & termText "1" "16777216" "1" "1")) A-answer
-    ∷ prints (A ("2\n" & termText "1" "16777216" "1" "1" & termText "1" "0" "1" "0")) A-answer
-    ∷ prints (wholes ("2\n" & termText "1" "16777216" "1" "2" & termText "1" "-16777216" "2" "1")) "row=1\ndegree=0\nvalue=16777216\nradius=0\nvalue=16777216\nradius=0\nresult=0\nat=0\n"
+    ∷ prints (A ("2\n" & termLines "1" "0" "1" "0" & termLines "1" "16777216" "1" "1")) A-answer
+    ∷ prints (A ("2\n" & termLines "1" "16777216" "1" "1" & termLines "1" "0" "1" "0")) A-answer
+    ∷ prints (wholes ("2\n" & termLines "1" "16777216" "1" "2" & termLines "1" "-16777216" "2" "1")) "row=1\ndegree=0\nvalue=16777216\nradius=0\nlow=16777216\nhigh=16777216\nvalue=16777216\nradius=0\nlow=16777216\nhigh=16777216\nresult=0\nat=0\n"
     -- a sum past the range of a coefficient is no refusal; the sheet keeps the terms as read
-    ∷ prints (sheetText "1" "131072" "349526" "349642" "16777216" "0" ("2\n" & squares ("268435456" ∷ "268435456" ∷ []))) "row=1\ndegree=2\nvalue=22020096\nradius=349642\nresult=0\nat=0\n"
-    ∷ reads (wholes ("3\n" & termText "1" "5" "1" "2" & termText "2" "0" "2" "0" & termText "1" "-5" "2" "1")) (term 1 (pos 5) 1 2 ∷ term 2 (pos 0) 2 0 ∷ term 1 (negℤ (pos 5)) 2 1 ∷ [])
+    ∷ prints (sheetLines "1" "131072" "349526" "349642" "16777216" "0" ("2\n" & squares ("268435456" ∷ "268435456" ∷ []))) "row=1\ndegree=2\nvalue=22020096\nradius=349642\nlow=11184694\nhigh=22369738\nresult=0\nat=0\n"
+    ∷ reads (wholes ("3\n" & termLines "1" "5" "1" "2" & termLines "2" "0" "2" "0" & termLines "1" "-5" "2" "1")) (term 1 (pos 5) 1 2 ∷ term 2 (pos 0) 2 0 ∷ term 1 (negℤ (pos 5)) 2 1 ∷ [])
     -- each sum stands in the place of the earliest, with its factors in that one's order; another target, another factor is not like; a sum past the range
     ∷ gathers (term 1 (pos 5) 1 2 ∷ term 2 (pos 7) 1 2 ∷ term 1 (negℤ (pos 5)) 2 1 ∷ term 1 (pos 3) 2 1 ∷ []) (term 1 (pos 3) 1 2 ∷ term 2 (pos 7) 1 2 ∷ [])
     ∷ gathers (term 1 (pos 5) 1 1 ∷ term 1 (pos 6) 1 2 ∷ term 1 (pos 0) 2 0 ∷ term 1 (pos 7) 2 2 ∷ []) (term 1 (pos 5) 1 1 ∷ term 1 (pos 6) 1 2 ∷ term 1 (pos 7) 2 2 ∷ [])
     ∷ gathers (term 1 (pos 5) 1 1 ∷ term 1 (negℤ (pos 5)) 1 1 ∷ []) []
     ∷ gathers (term 1 (pos 268435456) 0 0 ∷ term 1 (pos 268435456) 0 0 ∷ []) (term 1 (pos 536870912) 0 0 ∷ [])
+    -- stored sheets: refused as a sheet, of 401 steps and misspelt; of no more than 240 steps, whatever their passage does, and with a byte that is not as
+    -- it would be printed; longer ones, which are two sheets, the second from the last row; refused in the first 240 steps, and by question 4 after
+    -- them; question 5 is left to the second sheet
+    ∷ converts (A-of "401" square) "result=3\nat=0\n"
+    ∷ converts (A-of "400" (square & "\n")) "result=2\nat=0\n"
+    ∷ converts (A-of "1" square) (A-of "1" square)
+    ∷ converts (A-of "240" square) (A-of "240" square)
+    ∷ converts (still "241" "-5" "7") (still "240" "-5" "7" & "\n" & still "1" "-5" "7")
+    ∷ converts (still "400" "-5" "7") (still "240" "-5" "7" & "\n" & still "160" "-5" "7")
+    ∷ converts (rising "300" "4473000" "1000" "-536870912" "0") (rising "240" "4473000" "1000" "-536870912" "0" & "\n" & rising "60" "4473000" "1000" "536649088" "88986")
+    ∷ converts (A-of "241" square) "result=8\nat=2\n"
+    ∷ converts (rising "241" "4473925" "16" "-536870912" "0") "result=6\nat=241\n"
+    ∷ converts (quickening "241" "16777216" "0" "0") (quickening "240" "16777216" "0" "0" & "\n" & quickening "1" "57042496" "146066" "183224")
+    ∷ prints (quickening "1" "57042496" "146066" "183224") "result=7\nat=1\n"
+    -- question 4 alone is asked after them: of a value and a radius that a sheet may each have, and no other, so that a step 241 that is refused for
+    -- another reason leaves two sheets
+    ∷ converts (rising "241" "4473924" "1000" "-536870912" "0") "result=6\nat=241\n"
+    ∷ converts (tolerating "241" "-536870912" "0") (tolerating "240" "-536870912" "0" & "\n" & tolerating "1" "536649088" "88986")
+    -- the terms of both are those as read
+    ∷ converts (still-by "241" cancelling) (still-by "240" cancelling & "\n" & still-by "1" cancelling)
     ∷ []
 
 -- ---- numbers, as they are printed
@@ -286,7 +343,7 @@ cases =
 unfoldable pub AllPrinted : List (ℤ × String) → Type 0
 AllPrinted numbers = map (λ case. decimal (case .0)) numbers ≡ map (λ case. bytes (case .1)) numbers
 
--- the ends of each number of digits, and the largest value of a row, either way
+-- the ends of each number of digits, and the largest value and the largest low or high of a row, either way
 unfoldable pub numbers : List (ℤ × String)
 numbers =
     (pos 0, "0")
@@ -309,10 +366,12 @@ numbers =
     ∷ (pos 999999999, "999999999")
     ∷ (pos 1000000000, "1000000000")
     ∷ (pos 1610612736, "1610612736")
+    ∷ (pos 2147483648, "2147483648")
     ∷ (negℤ (pos 1), "-1")
     ∷ (negℤ (pos 9), "-9")
     ∷ (negℤ (pos 10), "-10")
     ∷ (negℤ (pos 1610612736), "-1610612736")
+    ∷ (negℤ (pos 2147483648), "-2147483648")
     ∷ []
 
 -- ---- numbers, as they are spelled

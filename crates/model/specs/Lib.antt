@@ -9,4 +9,5 @@ pub mod Passage
 pub mod Bounds
 pub mod Trust
 pub mod Answer
+pub mod Conversion
 pub mod Cases

@@ -1,4 +1,4 @@
--- Rows as the code holds them: one row's values and radii in two arrays, and rows one after another in a lent buffer.
+-- Rows as the code holds them: one row's numbers in arrays, and rows one after another in a lent buffer.
 use Prim.Native.Nat.{ℕ, _+_, _*_}
 use mathlib.Core.List.{List, [], _∷_, _++_, map, flatten}
 use lib.IntN.{ℤ, pos, natAbs}
@@ -8,6 +8,8 @@ use Rattle.model.specs.Sheet.{most-quantities, padded}
 use Rattle.model.specs.Step.{Row}
 use Rattle.model.specs.declared.Ball.{Ball}
 use Rattle.model.specs.declared.Balls.{Balls}
+use Rattle.model.specs.declared.Span.{Span}
+use Rattle.model.specs.declared.Spans.{Spans}
 
 -- ---- the values and the radii in two arrays
 
@@ -31,19 +33,45 @@ laidOut balls =
       radii = padded most-quantities 0 (map (λ ball. ball .radius) balls);
     }
 
+-- ---- the lows and the highs in two arrays
+
+-- the first n of them
+unfoldable pub spansOf : ℕ → Spans → List Span
+spansOf n spans = tabulate n (λ i. record { low = getD (spans .lows) i (pos 0); high = getD (spans .highs) i (pos 0) })
+
+-- spans in two arrays, with 0 past them
+unfoldable pub spansLaidOut : List Span → Spans
+spansLaidOut spans =
+    record {
+      lows = padded most-quantities (pos 0) (map (λ span. span .low) spans);
+      highs = padded most-quantities (pos 0) (map (λ span. span .high) spans);
+    }
+
+-- none
+unfoldable pub no-spans : Spans
+no-spans = spansLaidOut []
+
 -- ---- a row's places: the degree, and then the parts, each of n places
 
 -- how many parts stand behind the degree
 abbrev pub parts : ℕ
-parts = 2
+parts = 4
 
 -- the part of the values ..
 abbrev pub values-part : ℕ
 values-part = 0
 
--- .. and that of the radii
+-- .. that of the radii ..
 abbrev pub radii-part : ℕ
 radii-part = 1
+
+-- .. that of the lows ..
+abbrev pub lows-part : ℕ
+lows-part = 2
+
+-- .. and that of the highs
+abbrev pub highs-part : ℕ
+highs-part = 3
 
 -- how many places a row of n quantities takes
 unfoldable pub width : ℕ → ℕ
@@ -61,7 +89,12 @@ partPlace n j p i = degreePlace n j + 1 + p * n + i
 
 -- a row's parts, in the order of their numbers
 unfoldable pub rowParts : Row → List (List ℤ)
-rowParts row = map (λ ball. ball .value) (row .balls) ∷ map (λ ball. pos (ball .radius)) (row .balls) ∷ []
+rowParts row =
+    map (λ ball. ball .value) (row .balls) ∷
+    map (λ ball. pos (ball .radius)) (row .balls) ∷
+    map (λ span. span .low) (row .spans) ∷
+    map (λ span. span .high) (row .spans) ∷
+    []
 
 -- the degree, and the parts one after another
 unfoldable pub rowPlaces : Row → List ℤ
@@ -87,6 +120,10 @@ rowIn n buffer j =
       balls = tabulate n (λ i. record {
         value = getD buffer (partPlace n j values-part i) (pos 0);
         radius = natAbs (getD buffer (partPlace n j radii-part i) (pos 0));
+      });
+      spans = tabulate n (λ i. record {
+        low = getD buffer (partPlace n j lows-part i) (pos 0);
+        high = getD buffer (partPlace n j highs-part i) (pos 0);
       });
     }
 

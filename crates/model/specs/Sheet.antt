@@ -45,7 +45,11 @@ most-quantities = 8
 
 -- its most steps
 abbrev pub most-steps : ℕ
-most-steps = 400
+most-steps = 240
+
+-- the most steps of a stored sheet, as the conversion reads it
+abbrev pub stored-steps : ℕ
+stored-steps = 400
 
 -- its most terms
 abbrev pub most-terms : ℕ
@@ -136,7 +140,7 @@ within limits z = leZ (limits .low) z && leZ z (limits .high)
 unfoldable pub n-limits : Limits
 n-limits = from 1 to most-quantities
 
--- steps: 1 up to the most that are taken, 400 in a passage
+-- steps: 1 up to the most that are taken, 240 in a passage
 unfoldable pub steps-limits : ℕ → Limits
 steps-limits high = from 1 to high
 

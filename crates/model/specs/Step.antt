@@ -3,7 +3,7 @@ use Prim.Native.Nat.{ℕ, zero, suc, _+_, _-_, _*_, max}
 use mathlib.Core.Bool.{cond}
 use mathlib.Core.List.{List, [], _∷_, _++_}
 use lib.Dec.{eqb, leb}
-use lib.IntN.{ℤ, pos, natAbs, _*ℤ_}
+use lib.IntN.{ℤ, pos, natAbs, _+ℤ_, _-ℤ_, _*ℤ_}
 use lib.ListN.{length, getD}
 use Rattle.rounding.specs.Rounding.{near, up}
 use Rattle.model.specs.Range.{sum, sumℤ, largest, tabulate, least}
@@ -11,10 +11,15 @@ use Rattle.model.specs.Sheet.{scale, no-term}
 use Rattle.model.specs.Exact.{bringsℤ}
 use Rattle.model.specs.declared.Term.{Term}
 pub use Rattle.model.specs.declared.Ball.{Ball}
+pub use Rattle.model.specs.declared.Span.{Span}
 
 -- what a list of balls reads as past its end
 unfoldable pub no-ball : Ball
 no-ball = record { value = pos 0; radius = 0 }
+
+-- what a list of spans reads as past its end
+unfoldable pub no-span : Span
+no-span = record { low = pos 0; high = pos 0 }
 
 -- |value| + radius
 unfoldable pub reach : Ball → ℕ
@@ -122,10 +127,11 @@ coefficientsTo terms H balls (suc k) =
 
 -- ---- new row
 
--- a row: its degree, and for each quantity a value and a radius
+-- a row: its degree, and for each quantity a value and a radius, a low and a high
 pub record Row : Type 0 where
   pub degree : ℕ
   pub balls : List Ball
+  pub spans : List Span
 
 -- the sum of c_0..c_d, and that of e_0..e_d plus the tail
 unfoldable pub newBall : Coefficients → ℕ → ℕ → ℕ → Ball
@@ -135,10 +141,26 @@ newBall table d tail i =
       radius = sum (suc d) (λ k. coefficient table k i .radius) + tail;
     }
 
+-- document 02's reach: e_0 + the sum over k = 1..d of (|c_k| + e_k) + the tail
+unfoldable pub stepReach : Coefficients → ℕ → ℕ → ℕ → ℕ
+stepReach table d tail i = coefficient table 0 i .radius + sum d (λ k. reach (coefficient table (suc k) i)) + tail
+
+-- low and high: the step's starting value less and plus the reach
+unfoldable pub newSpan : Coefficients → ℕ → ℕ → ℕ → Span
+newSpan table d tail i =
+    let start = coefficient table 0 i .value in
+    let reach = pos (stepReach table d tail i) in
+    record { low = start -ℤ reach; high = start +ℤ reach }
+
 -- the row of degree d, with its tail
 unfoldable pub newRow : List Term → ℤ → List Ball → ℕ → ℕ → Row
 newRow terms H balls d tail =
-    record { degree = d; balls = tabulate (length balls) (newBall (coefficientsTo terms H balls d) d tail) }
+    let table = coefficientsTo terms H balls d in
+    record {
+      degree = d;
+      balls = tabulate (length balls) (newBall table d tail);
+      spans = tabulate (length balls) (newSpan table d tail);
+    }
 
 -- the row that a step of H comes to, with the sheet's tail as the limit
 unfoldable pub stepRow : List Term → ℤ → ℕ → List Ball → Row

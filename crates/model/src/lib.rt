@@ -19,7 +19,10 @@ pub const MOST_DIGITS: u64 = 9;
 pub const MOST_QUANTITIES: usize = 8;
 
 // Its most steps.
-pub const MOST_STEPS: usize = 400;
+pub const MOST_STEPS: usize = 240;
+
+// The most steps of a stored sheet, as the conversion reads it.
+pub const STORED_STEPS: usize = 400;
 
 // Its most terms.
 pub const MOST_TERMS: usize = 32;
@@ -92,6 +95,18 @@ pub struct Ball {
 pub struct Balls {
     pub values: [i64; MOST_QUANTITIES],
     pub radii: [u64; MOST_QUANTITIES],
+}
+
+// Two values in units, between which a quantity lies.
+pub struct Span {
+    pub low: i64,
+    pub high: i64,
+}
+
+// The lows and highs of up to 8 quantities.
+pub struct Spans {
+    pub lows: [i64; MOST_QUANTITIES],
+    pub highs: [i64; MOST_QUANTITIES],
 }
 
 // Every refusal of documents 01 and 02, in the order of the numbers.

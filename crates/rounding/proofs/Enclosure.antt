@@ -17,17 +17,26 @@ within-exact c m = record { off = rw (+ℤ-invr (c *ℤ pos m)) (omega arith) }
 pub within-wider : {u : ℤ} {m : ℕ} {c : ℤ} {e f : ℕ} → e ≤ f → Within u m c e → Within u m c f
 within-wider {m = m} h w = record { off = le-trans (w .off) (mul-le-mul-right m h) }
 
--- the low end of an enclosure
+-- the ends of an enclosure
 pub within-low : {u : ℤ} {m : ℕ} {c : ℤ} {e : ℕ} → Within u m c e → ((c -ℤ pos e) *ℤ pos m) ≤ℤ u
-within-low {u} {m} {c} {e} w =
-    rw (spread c (pos e) (pos m), pos-*ℤ-pos e m) (below (c *ℤ pos m) (e * m) (w .off))
+within-low {u} {m} {c} {e} w = rw (spread c (pos e) (pos m), pos-*ℤ-pos e m) (near-low u (c *ℤ pos m) (e * m) (w .off))
   where
     spread : (c e m : ℤ) → (c -ℤ e) *ℤ m ≡ c *ℤ m -ℤ e *ℤ m
     spread c e m = simp ringℤ
 
-    below : (x : ℤ) (k : ℕ) → natAbs (u -ℤ x) ≤ k → (x -ℤ pos k) ≤ℤ u
-    below x k h =
+    near-low : (u x : ℤ) (k : ℕ) → natAbs (u -ℤ x) ≤ k → (x -ℤ pos k) ≤ℤ u
+    near-low u x k h =
         parts-le (x -ℤ pos k) u (omega (arith, add-parts x (negℤ (pos k)), neg-parts (pos k), pos-parts k, add-parts u (negℤ x), neg-parts x, abs-parts (u -ℤ x)))
+
+pub within-high : {u : ℤ} {m : ℕ} {c : ℤ} {e : ℕ} → Within u m c e → u ≤ℤ ((c +ℤ pos e) *ℤ pos m)
+within-high {u} {m} {c} {e} w = rw (spread c (pos e) (pos m), pos-*ℤ-pos e m) (near-high u (c *ℤ pos m) (e * m) (w .off))
+  where
+    spread : (c e m : ℤ) → (c +ℤ e) *ℤ m ≡ c *ℤ m +ℤ e *ℤ m
+    spread c e m = simp ringℤ
+
+    near-high : (u x : ℤ) (k : ℕ) → natAbs (u -ℤ x) ≤ k → u ≤ℤ (x +ℤ pos k)
+    near-high u x k h =
+        parts-le u (x +ℤ pos k) (omega (arith, add-parts x (pos k), pos-parts k, add-parts u (negℤ x), neg-parts x, abs-parts (u -ℤ x)))
 
 pub within-sum : {u u′ : ℤ} {m : ℕ} {c c′ : ℤ} {e e′ : ℕ} → Within u m c e → Within u′ m c′ e′ → Within (u +ℤ u′) m (c +ℤ c′) (e + e′)
 within-sum {u} {u′} {m} {c} {c′} {e} {e′} w w′ =
