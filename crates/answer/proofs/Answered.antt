@@ -14,7 +14,7 @@ use Rattle.model.specs.Bounds.{RowsPrintable}
 use Rattle.model.specs.Passage.{Run, passage, run, refused, placesNeeded, rowsWritten}
 use Rattle.model.specs.Reading.{readSheet}
 use Rattle.model.specs.Sheet.{most-bytes, most-quantities, most-steps, refusedStep, n-limits, headVerdict, no-head, sheetVerdictTo, sheetVerdict, refuses, no-sheet, inRange, ask, within, from_to_, _then_}
-use Rattle.model.specs.Trust.{TrustedOf}
+use Rattle.model.specs.Trust.{TrustedOf, SpannedOf}
 use Rattle.model.specs.declared.Outcome.{Outcome}
 use Rattle.model.specs.declared.Outcome.the-variants.{Accepted, Refused}
 use Rattle.model.specs.declared.Refusal.{Refusal}
@@ -25,6 +25,7 @@ use Rattle.model.proofs.Readings.{accepted-is-acceptable, refused-is-zeros, rea
 use Rattle.model.proofs.Rows.{Wide, rows-in-written, places-length, written-length, rows-fit}
 use Rattle.model.proofs.Passages.{rows-of-passage, passage-refused, passage-runs}
 use Rattle.model.proofs.RowRange.{passage-in-range, passage-earlier, written-in-range, passage-step, passage-few, passage-fits}
+use Rattle.model.proofs.Spanned.{passage-spanned}
 use Rattle.model.proofs.Trusted.{passage-trusted}
 use Rattle.model.proofs.SheetBounds.{Counts, counts-of-sheet}
 use Rattle.answer.specs.declared.Ended.{Ended}
@@ -33,7 +34,7 @@ use Rattle.decimal.specs.Pieces.{Printed}
 use Rattle.decimal.proofs.Pieces.{printed-whole}
 use Rattle.text.specs.Lengths.{most-answer}
 use Rattle.text.proofs.Lengths.{length-run}
-use Rattle.answer.specs.Answered.{runLent, endedOf, Ran, TrustedLent, TrustedText, FrontOf, AnswersAlike}
+use Rattle.answer.specs.Answered.{runLent, endedOf, Ran, TrustedLent, SpannedLent, TrustedText, FrontOf, AnswersAlike}
 
 -- ---- the sheet that is read
 
@@ -154,6 +155,10 @@ module _ (sheet : List ℕ) {before after : List ℤ} {ended : Ended} (ran : Ran
   unfolding TrustedLent TrustedOf
   ran-trusted = rw (ran .buffer, read-back sheet before, rows-are sheet (length before)) (passage-trusted (readSheet sheet .sheet) (length before))
 
+  pub ran-spanned : SpannedLent sheet (length before) after
+  unfolding SpannedLent SpannedOf
+  ran-spanned = rw (ran .buffer, read-back sheet before, rows-are sheet (length before)) (passage-spanned (readSheet sheet .sheet) (length before))
+
 -- ---- with places enough, document 01's answer
 
 needs-at-most : (sheet : Sheet) {lent : ℕ} → sheet .head .n ≤ most-quantities → sheet .head .steps ≤ most-steps → most-steps * width most-quantities ≤ lent → placesNeeded sheet ≤ lent
@@ -180,9 +185,15 @@ run-trusted sheet =
     let places = most-steps * width most-quantities in
     rw (← (enough-is-run sheet places (le-refl places)), rows-are sheet places) (passage-trusted (readSheet sheet .sheet) places)
 
+run-spanned : (sheet : List ℕ) → SpannedOf (readSheet sheet .sheet) (runOf sheet .rows)
+unfolding SpannedOf
+run-spanned sheet =
+    let places = most-steps * width most-quantities in
+    rw (← (enough-is-run sheet places (le-refl places)), rows-are sheet places) (passage-spanned (readSheet sheet .sheet) places)
+
 pub text-trusted : (sheet : List ℕ) {before after : List ℕ} {count : ℕ} → Printed before (answer sheet) count after → TrustedText sheet before count after
 unfolding answer
-text-trusted sheet p = record { run = runOf sheet; printed = p; trusted = run-trusted sheet }
+text-trusted sheet p = record { run = runOf sheet; printed = p; trusted = run-trusted sheet; spanned = run-spanned sheet }
 
 -- ---- an input of which the front was read
 
@@ -210,9 +221,14 @@ alike-by-front room input bytes enough e = answer-by-reading (sym (read-from-fro
 
 -- ---- what the promises say
 
--- a text that fits and is trusted is that of rows of which demand 3 holds
-pub trusted-stands : {sheet before after : List ℕ} {count : ℕ} (t : TrustedText sheet before count after) → length (runText (t .run)) ≤ length before → (take count after ≡ runText (t .run)) × TrustedOf (readSheet sheet .sheet) (t .run .rows)
-trusted-stands t h = (printed-whole (t .printed) h, t .trusted)
+-- a text that fits and is trusted is that of rows of which demand 3 holds, and what is said of the water between them
+pub trusted-stands : {sheet before after : List ℕ} {count : ℕ} (t : TrustedText sheet before count after) → length (runText (t .run)) ≤ length before → (take count after ≡ runText (t .run)) × TrustedOf (readSheet sheet .sheet) (t .run .rows) × SpannedOf (readSheet sheet .sheet) (t .run .rows)
+trusted-stands t h = (printed-whole (t .printed) h, t .trusted, t .spanned)
+
+-- what is said of the rows in a lent buffer, whatever stands there: both, of as many rows as the run has
+pub lent-stands : (sheet : List ℕ) (places : ℕ) (after : List ℤ) → TrustedLent sheet places after → SpannedLent sheet places after → let rows = rowsIn (readSheet sheet .sheet .head .n) (length (runLent sheet places .rows)) after in TrustedOf (readSheet sheet .sheet) rows × SpannedOf (readSheet sheet .sheet) rows
+unfolding TrustedLent SpannedLent
+lent-stands sheet places after trusted spanned = (trusted, spanned)
 
 -- two inputs that are answered alike have one answer
 pub alike-answers : {one other : List ℕ} → AnswersAlike one other → answer one ≡ answer other

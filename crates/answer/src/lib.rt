@@ -7,7 +7,7 @@ ghost use Rattle.model.specs.Answer.{answer, runText};
 ghost use Rattle.model.specs.Rows.{written};
 ghost use Rattle.decimal.specs.Pieces.{Printed};
 ghost use Rattle.text.specs.Lengths.{most-answer};
-ghost use Rattle.answer.specs.Answered.{runLent, endedOf, Ran, summary-length, summaryOf, TrustedLent, TrustedText, FrontOf, AnswersAlike};
+ghost use Rattle.answer.specs.Answered.{runLent, endedOf, Ran, summary-length, summaryOf, TrustedLent, SpannedLent, TrustedText, FrontOf, AnswersAlike};
 use model::MOST_BYTES;
 use model::Outcome;
 use model::refused_step;
@@ -67,6 +67,7 @@ pub extern "C" fn planner_answer(sheet: &[u8], rows: &mut [i64], text: &mut [u8]
     ensures written { λ _. ⌜ now (rows .exit) ≡ written (runLent (now (sheet .entry)) (length (now (rows .entry))) .rows) (now (rows .entry)) ⌝ }
     ensures bounded { λ r. ⌜ r ≤ most-answer ⌝ }
     ensures trusted { λ _. ⌜ TrustedLent (now (sheet .entry)) (length (now (rows .entry))) (now (rows .exit)) ⌝ }
+    ensures spanned { λ _. ⌜ SpannedLent (now (sheet .entry)) (length (now (rows .entry))) (now (rows .exit)) ⌝ }
 {
     let ended = run_sheet(sheet, rows);
     let outcome = ended.outcome;
@@ -92,6 +93,7 @@ pub extern "C" fn planner_run(sheet: &[u8], rows: &mut [i64], summary: &mut [u64
     ensures summarised { λ _. ⌜ now (summary .exit) ≡ summaryOf (endedOf (now (sheet .entry)) (length (now (rows .entry)))) ⌝ }
     ensures written { λ _. ⌜ now (rows .exit) ≡ written (runLent (now (sheet .entry)) (length (now (rows .entry))) .rows) (now (rows .entry)) ⌝ }
     ensures trusted { λ _. ⌜ TrustedLent (now (sheet .entry)) (length (now (rows .entry))) (now (rows .exit)) ⌝ }
+    ensures spanned { λ _. ⌜ SpannedLent (now (sheet .entry)) (length (now (rows .entry))) (now (rows .exit)) ⌝ }
 {
     let ended = run_sheet(sheet, rows);
     put_summary(summary, ended);
@@ -110,7 +112,7 @@ fn answer_sheet(sheet: &[u8], text: &mut [u8]) -> usize
 }
 
 // The first `count` bytes, or all where there are no more.
-fn front(bytes: &[u8], count: usize) -> &[u8]
+pub fn front(bytes: &[u8], count: usize) -> &[u8]
     ensures { λ r. ⌜ now r ≡ take count (now (bytes .entry)) ⌝ }
 {
     if count < bytes.len() {

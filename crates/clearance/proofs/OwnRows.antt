@@ -60,7 +60,7 @@ module _ (sheet : Sheet) (before : List ℤ) where
   row-passes j h = rw (every-all _ (sheet .head .n) values, every-all _ (sheet .head .n) radii)
     where
       quantity : {i : ℕ} → i < sheet .head .n → i < length (getD rows j no-row .balls)
-      quantity l = rw (each-at no-row wide j h) l
+      quantity l = rw (each-at no-row wide j h .balls) l
 
       values : (i : ℕ) → i < sheet .head .n → within row-value-limits (getD (written rows before) (partPlace (sheet .head .n) j values-part i) (pos 0)) ≡ true
       values i l = rw (value-written wide before j h i l) (signed-passes most-place _ (omega (arith, in-range j h .values i (quantity l))))

@@ -3,7 +3,7 @@
 use Prim.Native.Nat.{ℕ}
 use mathlib.Core.List.{List, [], _∷_, _++_, map}
 use mathlib.Core.Path.{_≡_}
-use lib.IntN.{ℤ, pos, negℤ}
+use lib.IntN.{ℤ, pos, negℤ, _+ℤ_, _-ℤ_}
 use lib.ListN.{replicate, drop}
 use Rattle.model.specs.Sheet.{scale, most}
 use Rattle.clearance.specs.Clearance.{most-weight, most-place, firstClear, foundNumber}
@@ -37,9 +37,9 @@ two first second = first ∷ second ∷ replicate 6 (pos 0)
 unfoldable pub asking : List ℤ → ℤ → ℤ → ℕ → Query
 asking weights base need run = record { weights = weights; base = base; need = need; run = run }
 
--- a row of one quantity: its degree, its value and its radius
+-- a row of one quantity: its degree, its value and its radius, a low and a high
 unfoldable pub row : ℤ → ℤ → List ℤ
-row value radius = pos 0 ∷ value ∷ radius ∷ []
+row value radius = pos 0 ∷ value ∷ radius ∷ (value -ℤ radius) ∷ (value +ℤ radius) ∷ []
 
 -- so many rows of one quantity, and a query with the weight of a whole: at least so many units, for so many rows
 unfoldable pub rows : ℕ → List ℤ → ℤ → ℕ → ℤ → Case
@@ -72,15 +72,16 @@ second value radius answer =
     record {
       n = 2;
       count = 1;
-      buffer = pos 0 ∷ pos 0 ∷ value ∷ pos 0 ∷ radius ∷ [];
+      buffer = pos 0 ∷ pos 0 ∷ value ∷ pos 0 ∷ radius ∷ pos 0 ∷ (value -ℤ radius) ∷ pos 0 ∷ (value +ℤ radius) ∷ [];
       query = asking (one whole) (pos 0) (pos 0) 1;
       answer = answer;
     }
 
--- a row of eight quantities: values 1 to 8, radii 1, 2, 1, 2, ..; and weights of both signs, which come to 0
+-- a row of eight quantities: values 1 to 8, radii 1, 2, 1, 2, .., lows and highs; and weights of both signs, which come to 0
 unfoldable pub eight : List ℤ
 eight =
-    pos 3 ∷ pos 1 ∷ pos 2 ∷ pos 3 ∷ pos 4 ∷ pos 5 ∷ pos 6 ∷ pos 7 ∷ pos 8 ∷ pos 1 ∷ pos 2 ∷ pos 1 ∷ pos 2 ∷ pos 1 ∷ pos 2 ∷ pos 1 ∷ pos 2 ∷ []
+    pos 3 ∷ pos 1 ∷ pos 2 ∷ pos 3 ∷ pos 4 ∷ pos 5 ∷ pos 6 ∷ pos 7 ∷ pos 8 ∷ pos 1 ∷ pos 2 ∷ pos 1 ∷ pos 2 ∷ pos 1 ∷ pos 2 ∷ pos 1 ∷ pos 2
+    ∷ pos 0 ∷ pos 0 ∷ pos 2 ∷ pos 2 ∷ pos 4 ∷ pos 4 ∷ pos 6 ∷ pos 6 ∷ pos 2 ∷ pos 4 ∷ pos 4 ∷ pos 6 ∷ pos 6 ∷ pos 8 ∷ pos 8 ∷ pos 10 ∷ []
 
 unfoldable pub weighed : List ℤ
 weighed = negℤ (pos 8) ∷ pos 5 ∷ negℤ (pos 3) ∷ pos 9 ∷ pos 1 ∷ negℤ (pos 9) ∷ pos 4 ∷ pos 9 ∷ []
@@ -106,9 +107,9 @@ cases =
     ∷ alone (pos 16777215) (pos 0) (one (pos 1)) (pos 0) (pos 1) (pos 0)
     ∷ alone (pos 16777217) (pos 1) (one (pos 1)) (pos 0) (pos 1) (pos 1)
     ∷ alone (pos 16777216) (pos 1) (one (pos 1)) (pos 0) (pos 1) (pos 0)
-    -- two quantities: the degree, two values, two radii
-    ∷ record { n = 2; count = 1; buffer = pos 7 ∷ pos 20 ∷ pos 6 ∷ pos 3 ∷ pos 2 ∷ []; query = asking (two whole (negℤ whole)) (pos 0) (pos 9) 1; answer = pos 1 }
-    ∷ record { n = 2; count = 1; buffer = pos 7 ∷ pos 20 ∷ pos 6 ∷ pos 3 ∷ pos 2 ∷ []; query = asking (two whole (negℤ whole)) (pos 0) (pos 10) 1; answer = pos 0 }
+    -- two quantities: the degree, two values, two radii, two lows, two highs
+    ∷ record { n = 2; count = 1; buffer = pos 7 ∷ pos 20 ∷ pos 6 ∷ pos 3 ∷ pos 2 ∷ pos 17 ∷ pos 4 ∷ pos 23 ∷ pos 8 ∷ []; query = asking (two whole (negℤ whole)) (pos 0) (pos 9) 1; answer = pos 1 }
+    ∷ record { n = 2; count = 1; buffer = pos 7 ∷ pos 20 ∷ pos 6 ∷ pos 3 ∷ pos 2 ∷ pos 17 ∷ pos 4 ∷ pos 23 ∷ pos 8 ∷ []; query = asking (two whole (negℤ whole)) (pos 0) (pos 10) 1; answer = pos 0 }
     -- runs: the first row is 1; a gap breaks a run; the first run, not the last; a run to the very end; one longer than the rows
     ∷ rows 6 (deep ++ shoal ++ deep ++ deep ++ deep ++ shoal) (pos 9) 1 (pos 1)
     ∷ rows 6 (deep ++ shoal ++ deep ++ deep ++ deep ++ shoal) (pos 9) 2 (pos 3)
@@ -118,14 +119,14 @@ cases =
     ∷ rows 6 (deep ++ shoal ++ deep ++ deep ++ deep ++ shoal) (pos 5) 7 (pos 0)
     ∷ rows 3 (shoal ++ deep ++ deep) (pos 9) 2 (pos 2)
     ∷ rows 2 (shoal ++ deep ++ deep) (pos 9) 2 (pos 0)
-    -- n 1..8 and a count 0..400, 3; the places that they need, 5
+    -- n 1..8 and a count 0..240, 3; the places that they need, 5
     ∷ bare 0 1 99 (asking (one whole) (pos 0) (pos 0) 1) (refusal 3)
-    ∷ bare 8 5 85 (asking (one whole) (pos 0) (pos 0) 1) (pos 1)
+    ∷ bare 8 5 165 (asking (one whole) (pos 0) (pos 0) 1) (pos 1)
     ∷ bare 9 1 99 (asking (one whole) (pos 0) (pos 0) 1) (refusal 3)
-    ∷ bare 1 401 0 (asking (one whole) (pos 0) (pos 0) 1) (refusal 3)
-    ∷ bare 1 400 0 (asking (one whole) (pos 0) (pos 0) 1) (refusal 5)
-    ∷ bare 1 2 6 (asking (one whole) (pos 0) (pos 0) 2) (pos 1)
-    ∷ bare 1 2 5 (asking (one whole) (pos 0) (pos 0) 2) (refusal 5)
+    ∷ bare 1 241 0 (asking (one whole) (pos 0) (pos 0) 1) (refusal 3)
+    ∷ bare 1 240 0 (asking (one whole) (pos 0) (pos 0) 1) (refusal 5)
+    ∷ bare 1 2 10 (asking (one whole) (pos 0) (pos 0) 2) (pos 1)
+    ∷ bare 1 2 9 (asking (one whole) (pos 0) (pos 0) 2) (refusal 5)
     -- the query, 9: each number at both ends of its range; weights past n are not looked at
     ∷ asked (asking (one (pos most-weight)) (pos 0) (pos 0) 1) (pos 1)
     ∷ asked (asking (one (pos 67108865)) (pos 0) (pos 0) 1) (refusal 9)
@@ -141,8 +142,8 @@ cases =
     ∷ asked (asking (one whole) (pos 0) (negℤ (pos most)) 1) (pos 1)
     ∷ asked (asking (one whole) (pos 0) (negℤ (pos 536870913)) 1) (refusal 9)
     ∷ asked (asking (one whole) (pos 0) (pos 0) 0) (refusal 9)
-    ∷ asked (asking (one whole) (pos 0) (pos 0) 400) (pos 0)
-    ∷ asked (asking (one whole) (pos 0) (pos 0) 401) (refusal 9)
+    ∷ asked (asking (one whole) (pos 0) (pos 0) 240) (pos 0)
+    ∷ asked (asking (one whole) (pos 0) (pos 0) 241) (refusal 9)
     -- the rows, 10: 2^31 is in range; a radius is never negative; degrees are not looked at, nor are rows past the count
     ∷ alone (pos most-place) (pos 0) (one whole) (pos 0) (pos 0) (pos 1)
     ∷ alone (pos 2147483649) (pos 0) (one whole) (pos 0) (pos 0) (refusal 10)
@@ -151,14 +152,14 @@ cases =
     ∷ alone (pos 0) (pos most-place) (one whole) (pos 0) (pos 0) (pos 0)
     ∷ alone (pos 0) (pos 2147483649) (one whole) (pos 0) (pos 0) (refusal 10)
     ∷ alone (pos 9) (negℤ (pos 1)) (one whole) (pos 0) (pos 0) (refusal 10)
-    ∷ rows 1 (negℤ (pos 5) ∷ pos 9 ∷ pos 0 ∷ []) (pos 0) 1 (pos 1)
+    ∷ rows 1 (negℤ (pos 5) ∷ drop 1 (row (pos 9) (pos 0))) (pos 0) 1 (pos 1)
     ∷ rows 1 (deep ++ row (pos 9) (negℤ (pos 1))) (pos 9) 1 (pos 1)
     -- all counted rows are asked before any search
     ∷ rows 3 (deep ++ deep ++ row (pos 9) (negℤ (pos 1))) (pos 9) 1 (refusal 10)
     ∷ rows 3 (deep ++ deep ++ row (pos 2147483649) (pos 0)) (pos 9) 1 (refusal 10)
     -- their order: 3 before 5, 5 before 9, 9 before 10 and before none for no rows
-    ∷ bare 9 400 0 (asking (one whole) (pos 0) (pos 0) 0) (refusal 3)
-    ∷ bare 1 1 2 (asking (one whole) (pos 0) (pos 0) 0) (refusal 5)
+    ∷ bare 9 240 0 (asking (one whole) (pos 0) (pos 0) 0) (refusal 3)
+    ∷ bare 1 1 4 (asking (one whole) (pos 0) (pos 0) 0) (refusal 5)
     ∷ rows 1 (row (pos 9) (negℤ (pos 1))) (pos 0) 0 (refusal 9)
     ∷ bare 1 0 0 (asking (one whole) (pos 0) (pos 0) 0) (refusal 9)
     ∷ bare 1 0 0 (asking (one whole) (pos 0) (pos 0) 1) (pos 0)
@@ -169,27 +170,27 @@ cases =
     ∷ alone (pos 12) (pos 3) (one (pos 0)) (pos 4) (pos 5) (pos 0)
     ∷ record { n = 8; count = 1; buffer = eight; query = asking weighed (pos 0) (pos 0) 1; answer = pos 1 }
     ∷ record { n = 8; count = 1; buffer = eight; query = asking (negℤ (pos 9) ∷ drop 1 weighed) (pos 0) (pos 0) 1; answer = pos 0 }
-    -- a run does not go on from the last row to the first; it may be all 400 rows
+    -- a run does not go on from the last row to the first; it may be all 240 rows
     ∷ rows 3 (deep ++ shoal ++ deep) (pos 9) 2 (pos 0)
-    ∷ bare 1 400 1200 (asking (one whole) (pos 0) (pos 0) 400) (pos 1)
+    ∷ bare 1 240 1200 (asking (one whole) (pos 0) (pos 0) 240) (pos 1)
     -- n and the count are asked where there are no rows; the places of rows of more than one quantity; 5 before 10
     ∷ bare 0 0 0 (asking (one whole) (pos 0) (pos 0) 1) (refusal 3)
     ∷ bare 9 0 0 (asking (one whole) (pos 0) (pos 0) 1) (refusal 3)
-    ∷ bare 2 1 4 (asking (one whole) (pos 0) (pos 0) 1) (refusal 5)
-    ∷ bare 8 5 84 (asking (one whole) (pos 0) (pos 0) 1) (refusal 5)
+    ∷ bare 2 1 8 (asking (one whole) (pos 0) (pos 0) 1) (refusal 5)
+    ∷ bare 8 5 164 (asking (one whole) (pos 0) (pos 0) 1) (refusal 5)
     ∷ rows 2 (row (pos 9) (negℤ (pos 1))) (pos 0) 1 (refusal 5)
     -- every one of the n weights, values and radii is asked, whatever its weight, and the weights where there are no rows
-    ∷ bare 2 1 5 (asking (two whole (pos 67108865)) (pos 0) (pos 0) 1) (refusal 9)
-    ∷ bare 2 1 5 (asking (two whole (negℤ (pos 67108865))) (pos 0) (pos 0) 1) (refusal 9)
+    ∷ bare 2 1 9 (asking (two whole (pos 67108865)) (pos 0) (pos 0) 1) (refusal 9)
+    ∷ bare 2 1 9 (asking (two whole (negℤ (pos 67108865))) (pos 0) (pos 0) 1) (refusal 9)
     ∷ bare 1 0 0 (asking (one (pos 67108865)) (pos 0) (pos 0) 1) (refusal 9)
-    ∷ bare 8 1 17 (asking (replicate 7 (pos 0) ++ (pos 67108865 ∷ [])) (pos 0) (pos 0) 1) (refusal 9)
-    ∷ record { n = 8; count = 1; buffer = replicate 16 (pos 0) ++ (negℤ (pos 1) ∷ []); query = asking (one whole) (pos 0) (pos 0) 1; answer = refusal 10 }
+    ∷ bare 8 1 33 (asking (replicate 7 (pos 0) ++ (pos 67108865 ∷ [])) (pos 0) (pos 0) 1) (refusal 9)
+    ∷ record { n = 8; count = 1; buffer = replicate 16 (pos 0) ++ (negℤ (pos 1) ∷ replicate 16 (pos 0)); query = asking (one whole) (pos 0) (pos 0) 1; answer = refusal 10 }
     ∷ second (pos most-place) (pos most-place) (pos 1)
     ∷ second (pos 2147483649) (pos 0) (refusal 10)
     ∷ second (negℤ (pos 2147483649)) (pos 0) (refusal 10)
     ∷ second (pos 0) (pos 2147483649) (refusal 10)
     ∷ second (pos 0) (negℤ (pos 1)) (refusal 10)
     -- a degree may be any number
-    ∷ rows 1 (pos 9223372036854775807 ∷ pos 9 ∷ pos 0 ∷ []) (pos 0) 1 (pos 1)
-    ∷ rows 1 (negℤ (pos 9223372036854775808) ∷ pos 9 ∷ pos 0 ∷ []) (pos 0) 1 (pos 1)
+    ∷ rows 1 (pos 9223372036854775807 ∷ drop 1 (row (pos 9) (pos 0))) (pos 0) 1 (pos 1)
+    ∷ rows 1 (negℤ (pos 9223372036854775808) ∷ drop 1 (row (pos 9) (pos 0))) (pos 0) 1 (pos 1)
     ∷ []

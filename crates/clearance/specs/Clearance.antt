@@ -49,7 +49,7 @@ firstRun query rows =
 
 -- ---- what is asked first
 
--- a count of rows: 0..400
+-- a count of rows: 0..240
 unfoldable pub count-limits : Limits
 count-limits = from 0 to most-steps
 
@@ -65,7 +65,7 @@ weight-limits = ± most-weight
 unfoldable pub depth-limits : Limits
 depth-limits = ± most
 
--- a run length: 1..400
+-- a run length: 1..240
 unfoldable pub run-limits : Limits
 run-limits = from 1 to most-steps
 
@@ -89,7 +89,7 @@ queryWithin n query =
     && within depth-limits (query .need)
     && within run-limits (pos (query .run))
 
--- the values and the radii of row j are in their ranges, as they stand in the buffer; its degree is not looked at
+-- the values and the radii of row j are in their ranges, as they stand in the buffer; its degree, its lows and its highs are not looked at
 unfoldable pub rowWithin : ℕ → List ℤ → ℕ → Bool
 rowWithin n rows j =
     every n (λ i. within row-value-limits (getD rows (partPlace n j values-part i) (pos 0)))

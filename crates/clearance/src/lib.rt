@@ -4,7 +4,7 @@ ghost use mathlib.Core.Path.{_≡_};
 ghost use lib.ListN.{length};
 ghost use Rattle.model.specs.Sheet.{result, refusedStep, Gives};
 ghost use Rattle.model.specs.Passage as passage;
-ghost use Rattle.passage.specs.Promise.{TrustedRows};
+ghost use Rattle.passage.specs.Promise.{TrustedRows, SpannedRows};
 ghost use Rattle.clearance.specs.Asked.{NamesRow};
 ghost use Rattle.clearance.specs.Claim.{Said, SaidBy, SaidOf};
 ghost use Rattle.clearance.specs.Clearance as clearance;
@@ -43,7 +43,7 @@ pub enum Found {
     Refused(Refusal),
 }
 
-// A count of rows: 0..400.
+// A count of rows: 0..240.
 const COUNT: Limits = Limits {
     low: 0,
     high: MOST_STEPS as i64,
@@ -119,6 +119,7 @@ pub struct RunFound {
 pub fn run_and_find(sheet: Sheet, rows: &mut [i64], query: Query) -> RunFound
     ensures kept { λ r. ⌜ passage.Kept (passage.passage sheet (length (now (rows .entry)))) (now (rows .entry)) (now (rows .exit)) (r .outcome) ⌝ }
     ensures trusted { λ r. ⌜ TrustedRows sheet (now (rows .exit)) (r .outcome) ⌝ }
+    ensures spanned { λ r. ⌜ SpannedRows sheet (now (rows .exit)) (r .outcome) ⌝ }
     ensures numbered { λ r. ⌜ Gives (r .outcome) (result (passage.passage sheet (length (now (rows .entry))) .outcome)) (refusedStep (passage.passage sheet (length (now (rows .entry))) .outcome)) ⌝ }
     ensures found { λ r. ⌜ r .found ≡ clearance.firstClear (sheet .head .n) (passage.rowsWritten sheet (r .outcome)) (now (rows .exit)) query ⌝ }
     ensures said { λ r. ⌜ SaidOf sheet query (now (rows .exit)) (r .outcome) (r .found) ⌝ }

@@ -33,7 +33,7 @@ const DEPTH: Limits = Limits {
     high: MOST as i64,
 };
 
-// A run length: 1..400.
+// A run length: 1..240.
 const RUN: Limits = Limits {
     low: 1,
     high: MOST_STEPS as i64,

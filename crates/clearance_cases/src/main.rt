@@ -67,7 +67,7 @@ fn ask(sheet: Sheet, need: i64, run: usize) {
         need,
         run,
     };
-    let mut rows = [0i64; 9];
+    let mut rows = [0i64; 15];
     let came = run_and_find(sheet, &mut rows, query);
     let outcome = came.outcome;
     print(b"result=", model::result(outcome));

@@ -6,3 +6,4 @@ mod row;
 pub use orders::fill_orders;
 pub use orders::start_orders;
 pub use row::new_row;
+pub use row::new_spans;

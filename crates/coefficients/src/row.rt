@@ -1,4 +1,4 @@
-// Document 01, 'New row': the sums of the orders.
+// Document 01, 'New row', and document 02's lows and highs: the sums of the orders.
 ghost use mathlib.Core.Path.{_≡_};
 ghost use Prim.Native.Nat.{_^_, _≤_, _<_};
 ghost use lib.Seq.{sets};
@@ -9,6 +9,7 @@ ghost use Rattle.model.specs.Step.{«most-degree»};
 ghost use Rattle.products.specs.Table.{tableIn, Small};
 use model::Ball;
 use model::MOST_QUANTITIES;
+use model::Span;
 use products::ORDERS;
 use products::PLACES;
 use rounding::magnitude;
@@ -61,6 +62,61 @@ pub fn new_row(
         let value = ball.value;
         row[i] = value;
         radii[i] = ball.radius;
+        i += 1;
+    }
+}
+
+// The low and the high of quantity i: c_0 less and plus e_0 + the sum over k = 1..degree of (|c_k| + e_k) + the tail.
+fn new_span(
+    degree: usize,
+    tail: u64,
+    i: usize,
+    values: &[i64; PLACES],
+    reaches: &[u64; PLACES],
+) -> Span
+    requires { ⌜ (degree ≤ most-degree) × (i < most-quantities) ⌝ }
+    requires { ⌜ tail ≤ 2 ^ 32 ⌝ }
+    requires { ⌜ Small degree (now values) (now reaches) ⌝ }
+    ensures { λ r. ⌜ r ≡ rule.newSpan (tableIn degree (now (values .entry)) (now (reaches .entry))) degree tail i ⌝ }
+{
+    let first = i * ORDERS;
+    let start = values[first];
+    let mut reach = reaches[first] - magnitude(start) + tail;
+    let mut k = 0;
+    while k < degree {
+        k += 1;
+        reach += reaches[first + k];
+    }
+    let extent = reach as i64;
+    Span {
+        low: start - extent,
+        high: start + extent,
+    }
+}
+
+// Puts the lows and highs of n quantities into the first n places of two arrays, and changes no other place.
+pub fn new_spans(
+    n: usize,
+    degree: usize,
+    tail: u64,
+    values: &[i64; PLACES],
+    reaches: &[u64; PLACES],
+    lows: &mut [i64; MOST_QUANTITIES],
+    highs: &mut [i64; MOST_QUANTITIES],
+)
+    requires { ⌜ (n ≤ most-quantities) × (degree ≤ most-degree) ⌝ }
+    requires { ⌜ tail ≤ 2 ^ 32 ⌝ }
+    requires { ⌜ Small degree (now values) (now reaches) ⌝ }
+    ensures lows { λ _. ⌜ now (lows .exit) ≡ sets (now (lows .entry)) 0 (tabulate n (λ i. rule.newSpan (tableIn degree (now (values .entry)) (now (reaches .entry))) degree tail i .low)) ⌝ }
+    ensures highs { λ _. ⌜ now (highs .exit) ≡ sets (now (highs .entry)) 0 (tabulate n (λ i. rule.newSpan (tableIn degree (now (values .entry)) (now (reaches .entry))) degree tail i .high)) ⌝ }
+{
+    let mut i = 0;
+    while i < n {
+        let span = new_span(degree, tail, i, values, reaches);
+        let low = span.low;
+        let high = span.high;
+        lows[i] = low;
+        highs[i] = high;
         i += 1;
     }
 }

@@ -54,23 +54,10 @@ decimal-pairs n h =
 
 -- ---- how many digits there are
 
-tenth-below : (k n : ℕ) → n < 10 ^ suc (suc k) → n / 10 < 10 ^ suc k
-tenth-below k n h = omega (arith, pow-suc 10 (suc k))
-
 tenth-from : (k n : ℕ) → 10 ^ suc k ≤ n → 10 ^ k ≤ n / 10
 tenth-from k n h = omega (arith, pow-suc 10 k)
 
--- no more than k below 10^k ..
-pub length-below : (k n : ℕ) → 0 < k → n < 10 ^ k → length (decimal (pos n)) ≤ k
-length-below zero n l h = absurd (omega arith)
-length-below (suc zero) n l h = rw (decimal-digit n h) (omega arith)
-length-below (suc (suc k)) n l h =
-    ⊎-elim
-    (λ short. rw (decimal-digit n short) (omega arith))
-    (λ long. rw (decimal-digits n long, length-append) (omega (arith, length-below (suc k) (n / 10) (omega arith) (tenth-below k n h))))
-    (before-or-past n 10)
-
--- .. one at least ..
+-- one at least ..
 pub length-some : (n : ℕ) → 0 < length (decimal (pos n))
 length-some n =
     ⊎-elim (λ short. rw (decimal-digit n short) (omega arith)) (λ long. rw (decimal-digits n long, length-append) (omega arith)) (before-or-past n 10)
@@ -80,11 +67,3 @@ pub length-from : (k n : ℕ) → 10 ^ k ≤ n → k < length (decimal (pos n))
 length-from zero n h = length-some n
 length-from (suc k) n h =
     rw (decimal-digits n (le-trans (pow-le-pow-right {n = 10} (omega arith) {i = 1} {j = suc k} (omega arith)) h), length-append) (omega (arith, length-from k (n / 10) (tenth-from k n h)))
-
--- a sign, and no more than k digits
-pub length-signed : (k : ℕ) (z : ℤ) → 0 < k → natAbs z < 10 ^ k → length (decimal z) ≤ suc k
-length-signed k z l h = rw (decimal-signed z, length-append) (omega (arith, length-below k (natAbs z) l h, length-sign z))
-  where
-    length-sign : (z : ℤ) → length (sign z) ≤ 1
-    length-sign (pos n) = omega arith
-    length-sign (negsuc n) = omega arith

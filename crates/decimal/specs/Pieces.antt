@@ -37,3 +37,7 @@ sign (negsuc n) = code "-" ∷ []
 -- The line of a whole number, behind a key that has its `=`.
 abbrev pub lineOf : List ℕ → ℤ → List ℕ
 lineOf key z = key ++ decimal z ++ bytes "\n"
+
+-- The most bytes of a line: a key of so many bytes, `=`, so many digits with their sign, and the line feed.
+abbrev pub most-line : ℕ → ℕ → ℕ
+most-line key digits = key + digits + 2

@@ -14,6 +14,9 @@ use rounding::magnitude;
 use tens::ENTRIES;
 use tens::power_of_ten;
 
+// The bytes of a line besides its key, its digits and their sign: `=` and the line feed.
+pub const ENDS: usize = 2;
+
 // One byte.
 fn put_byte(text: &mut [u8], at: usize, byte: u8) -> usize
     requires { ⌜ Room (now text) at (byte ∷ []) ⌝ }
@@ -24,7 +27,7 @@ fn put_byte(text: &mut [u8], at: usize, byte: u8) -> usize
 }
 
 // Bytes as they are.
-fn put_bytes(text: &mut [u8], at: usize, bytes: &[u8]) -> usize
+pub fn put_bytes(text: &mut [u8], at: usize, bytes: &[u8]) -> usize
     requires { ⌜ Room (now text) at (now bytes) ⌝ }
     ensures { λ r. ⌜ Put (now (text .entry)) at (now (bytes .entry)) r (now (text .exit)) ⌝ }
 {

@@ -1,15 +1,15 @@
--- The promise of a passage, by the way that it ends; and demand 3 of the rows that stand in the buffer. Assumes nothing.
-use Prim.Native.Nat.{ℕ, suc, _≤_, _<_}
+-- The promise of a passage, by the way that it ends; and demand 3, and the water between the rows, of the rows that stand in the buffer. Assumes nothing.
+use Prim.Native.Nat.{ℕ, suc, _*_, _≤_, _<_}
 use mathlib.Core.Path.{_≡_, ap}
 use mathlib.Core.List.{List}
 use native.Mathlib.Omega.{arith}
-use lib.IntN.{ℤ}
+use lib.IntN.{ℤ, pos, _*ℤ_}
 use lib.ListN.{length, getD}
-use Rattle.model.specs.Sheet.{result, refusedStep, Gives, passes, refuses, sheetVerdict, termsOf, startsOf}
-use Rattle.model.specs.Exact.{State}
+use Rattle.model.specs.Sheet.{scale, result, refusedStep, Gives, passes, refuses, sheetVerdict, termsOf, startsOf}
+use Rattle.model.specs.Exact.{State, exactSum}
 use Rattle.model.specs.Passage.{placesNeeded, run, passage, refused, rowsWritten, Kept}
 use Rattle.model.specs.Rows.{places, written, rowIn, rowsIn}
-use Rattle.model.specs.Trust.{LiesWithin, Tolerated, stateAfter, no-row, NoLower, Trusted, TrustedOf}
+use Rattle.model.specs.Trust.{LiesWithin, LiesBetween, Tolerated, stateAfter, no-row, NoLower, Trusted, TrustedOf, startOf, Spanned, SpannedOf}
 use Rattle.model.specs.declared.Sheet.{Sheet}
 use Rattle.model.specs.declared.Refusal.{Refusal}
 use Rattle.model.specs.declared.Refusal.the-variants.{TooFewPlaces}
@@ -18,8 +18,9 @@ use Rattle.model.specs.declared.Outcome.the-variants.{Refused}
 use Rattle.model.proofs.Ranges.{length-tabulate}
 use Rattle.model.proofs.Rows.{rows-in-written}
 use Rattle.model.proofs.Passages.{rows-of-passage, passage-refused, passage-too-few-places, passage-runs}
+use Rattle.model.proofs.Spanned.{passage-spanned}
 use Rattle.model.proofs.Trusted.{passage-trusted}
-use Rattle.passage.specs.Promise.{TrustedRows}
+use Rattle.passage.specs.Promise.{TrustedRows, SpannedRows}
 
 module _ (sheet : Sheet) (buffer : List ℤ) where
   -- no row is written, and the buffer is as it was
@@ -50,15 +51,33 @@ unfolding TrustedRows TrustedOf Trusted rowsIn
 trusted-says sheet after outcome trusted state within degrees lower j h =
     trusted state within degrees lower j (omega (arith, length-tabulate (rowsWritten sheet outcome) (rowIn (sheet .head .n) after)))
 
+-- What is said of the water between the rows: from every state within the radii that a written row's step started from, at every fraction of the step
+-- and for every degree no lower than the printed one, the exact sum by the sheet's terms as read is no lower than the row's low and no higher than
+-- its high, in every quantity.
+pub spanned-says : (sheet : Sheet) (after : List ℤ) (outcome : Outcome) → SpannedRows sheet after outcome →
+    let count = rowsWritten sheet outcome in
+    let rows = rowsIn (sheet .head .n) count after in
+    (j : ℕ) → j < count → (state : State) → LiesWithin (startOf (startsOf sheet) rows j) state → (u w : ℕ) → 0 < w → u ≤ w → (K : ℕ) → getD rows j no-row .degree ≤ K →
+    LiesBetween (getD rows j no-row .spans) (exactSum (termsOf sheet) (sheet .head .step *ℤ pos u) (scale * w) K state)
+unfolding SpannedRows SpannedOf Spanned rowsIn
+spanned-says sheet after outcome spanned j h =
+    spanned j (omega (arith, length-tabulate (rowsWritten sheet outcome) (rowIn (sheet .head .n) after)))
+
 kept-trusted : (sheet : Sheet) {before after : List ℤ} {outcome : Outcome} → Kept (passage sheet (length before)) before after outcome → TrustedRows sheet after outcome
 unfolding TrustedRows
 kept-trusted sheet {before} {after} {outcome} k =
     let rows = rows-of-passage sheet (length before) in
     rw (k .answer, k .buffer, ← (rows .count), rows-in-written (rows .wide) before) (passage-trusted sheet (length before))
 
+kept-spanned : (sheet : Sheet) {before after : List ℤ} {outcome : Outcome} → Kept (passage sheet (length before)) before after outcome → SpannedRows sheet after outcome
+unfolding SpannedRows
+kept-spanned sheet {before} {after} {outcome} k =
+    let rows = rows-of-passage sheet (length before) in
+    rw (k .answer, k .buffer, ← (rows .count), rows-in-written (rows .wide) before) (passage-spanned sheet (length before))
+
 kept-gives : (sheet : Sheet) {before after : List ℤ} {outcome : Outcome} → Kept (passage sheet (length before)) before after outcome → Gives outcome (result (passage sheet (length before) .outcome)) (refusedStep (passage sheet (length before) .outcome))
 kept-gives sheet k = record { result-is = ap result (k .answer); step-is = ap refusedStep (k .answer) }
 
 -- all that a passage promises
-pub promised : (sheet : Sheet) {before after : List ℤ} {outcome : Outcome} → Kept (passage sheet (length before)) before after outcome → Kept (passage sheet (length before)) before after outcome × (TrustedRows sheet after outcome × Gives outcome (result (passage sheet (length before) .outcome)) (refusedStep (passage sheet (length before) .outcome)))
-promised sheet k = (k, (kept-trusted sheet k, kept-gives sheet k))
+pub promised : (sheet : Sheet) {before after : List ℤ} {outcome : Outcome} → Kept (passage sheet (length before)) before after outcome → Kept (passage sheet (length before)) before after outcome × (TrustedRows sheet after outcome × (SpannedRows sheet after outcome × Gives outcome (result (passage sheet (length before) .outcome)) (refusedStep (passage sheet (length before) .outcome))))
+promised sheet k = (k, (kept-trusted sheet k, (kept-spanned sheet k, kept-gives sheet k)))

@@ -7,7 +7,7 @@ use Rattle.model.specs.Sheet.{most-steps, passes, refuses, sheetVerdict, termsO
 use Rattle.model.specs.LikeTerms.{gathered}
 use Rattle.model.specs.Passage.{Advance, stops, advance, rowsWritten}
 use Rattle.model.specs.Rows.{width, rowsIn}
-use Rattle.model.specs.Trust.{TrustedOf}
+use Rattle.model.specs.Trust.{TrustedOf, SpannedOf}
 use Rattle.model.specs.declared.Ball.{Ball}
 use Rattle.model.specs.declared.Head.{Head}
 use Rattle.model.specs.declared.Term.{Term}
@@ -26,6 +26,11 @@ pub record CanRun (head : Head) (terms : List Term) (rows : List ℤ) : Type 0 w
 unfoldable pub TrustedRows : Sheet → List ℤ → Outcome → Type 0
 TrustedRows sheet after outcome =
     TrustedOf sheet (rowsIn (sheet .head .n) (rowsWritten sheet outcome) after)
+
+-- The water between the rows, of the rows as they stand in the buffer.
+unfoldable pub SpannedRows : Sheet → List ℤ → Outcome → Type 0
+SpannedRows sheet after outcome =
+    SpannedOf sheet (rowsIn (sheet .head .n) (rowsWritten sheet outcome) after)
 
 -- One step of a sheet by its gathered terms, from any values and radii: the refusal of its fields first, and then the step's own questions.
 unfoldable pub stepOf : Sheet → List Ball → Advance

@@ -6,7 +6,7 @@ ghost use Rattle.model.specs.Sheet.{result, refusedStep, Gives, most-quantities
 ghost use Rattle.model.specs.Rows.{ballsOf};
 ghost use Rattle.model.specs.Passage as passage;
 ghost use Rattle.taylor.specs.Step.{answered, Numbered};
-ghost use Rattle.passage.specs.Promise.{CanRun, TrustedRows, stepOf};
+ghost use Rattle.passage.specs.Promise.{CanRun, TrustedRows, SpannedRows, stepOf};
 use model::Balls;
 use model::Head;
 use model::MOST_QUANTITIES;
@@ -20,6 +20,7 @@ use rows::put_row;
 use rows::width;
 use taylor::Advance;
 use taylor::Stepped;
+use taylor::stopped;
 use taylor::sums_of;
 use taylor::take_step;
 use terms::gather;
@@ -70,14 +71,15 @@ fn run_steps(head: Head, terms: Terms, start: Balls, rows: &mut [i64]) -> Outcom
     while done < steps {
         let stepped = take_step(head, terms, &sums, balls, &mut values, &mut reaches);
         let advance = stepped.advance;
-        balls = stepped.balls;
+        let numbers = stepped.numbers;
+        balls = numbers.balls;
         match advance {
             Advance::Stops(refusal) => {
                 let number = done + 1;
                 return Outcome::Refused(refusal, number);
             }
             Advance::Moves(degree) => {
-                put_row(rows, n, done, degree, balls);
+                put_row(rows, n, done, degree, balls, numbers.spans);
             }
         }
         done += 1;
@@ -90,6 +92,7 @@ fn run_steps(head: Head, terms: Terms, start: Balls, rows: &mut [i64]) -> Outcom
 pub fn run(sheet: Sheet, rows: &mut [i64]) -> Outcome
     ensures kept { λ r. ⌜ passage.Kept (passage.passage sheet (length (now (rows .entry)))) (now (rows .entry)) (now (rows .exit)) r ⌝ }
     ensures trusted { λ r. ⌜ TrustedRows sheet (now (rows .exit)) r ⌝ }
+    ensures spanned { λ r. ⌜ SpannedRows sheet (now (rows .exit)) r ⌝ }
     ensures numbered { λ r. ⌜ Gives r (result (passage.passage sheet (length (now (rows .entry))) .outcome)) (refusedStep (passage.passage sheet (length (now (rows .entry))) .outcome)) ⌝ }
 {
     let refused = verdict(sheet);
@@ -123,10 +126,7 @@ pub fn step(sheet: Sheet, start: Balls) -> Stepped
 {
     let refused = verdict(sheet);
     if let Outcome::Refused(refusal, _) = refused {
-        return Stepped {
-            advance: Advance::Stops(refusal),
-            balls: start,
-        };
+        return stopped(refusal, start);
     }
     let head = sheet.head;
     let terms = gather(sheet.terms);

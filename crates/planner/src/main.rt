@@ -3,32 +3,10 @@
 use answer::SHEET_LENGTH;
 use answer::TEXT_LENGTH;
 use answer::answer_input;
+use input::Input;
+use input::read_input;
 use libc::STDERR_FILENO;
-use libc::STDIN_FILENO;
 use libc::STDOUT_FILENO;
-
-// What reading standard input came to: so many bytes, or a read that failed.
-enum Input {
-    Bytes(usize),
-    Unreadable,
-}
-
-// Reads standard input into `sheet` until it ends or `sheet` is full.
-fn read_input(sheet: &mut [u8]) -> Input {
-    let mut count = 0;
-    while count < sheet.len() {
-        let got = libc::read(STDIN_FILENO, &mut sheet[count..]);
-        if got < 0 {
-            return Input::Unreadable;
-        }
-        let more = io::count(got, &sheet[count..]);
-        if more == 0 {
-            break;
-        }
-        count += more;
-    }
-    Input::Bytes(count)
-}
 
 // Reads a sheet, and prints its answer.
 fn main() {

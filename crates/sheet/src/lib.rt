@@ -3,7 +3,7 @@
 ghost use mathlib.Core.Path.{_≡_};
 ghost use Prim.Native.Nat.{_≤_};
 ghost use Rattle.model.specs.Reading as model;
-ghost use Rattle.model.specs.Sheet.{most-quantities, result, Gives, no-head, no-quantity};
+ghost use Rattle.model.specs.Sheet.{most-quantities, stored-steps, result, Gives, no-head, no-quantity};
 ghost use Rattle.lines.specs.Places.{rest};
 ghost use Rattle.lines.specs.Fields.{wholeRead};
 ghost use Rattle.sheet.specs.Parts.{headRead, startRead, quantityRead, quantitiesRead, termRead, termsRead};
@@ -22,6 +22,7 @@ use model::Outcome;
 use model::Quantity;
 use model::ReadSheet;
 use model::Refusal;
+use model::STORED_STEPS;
 use model::Sheet;
 use model::Start;
 use model::Term;
@@ -146,7 +147,7 @@ fn read_quantity(text: &[u8], from: Cursor) -> QuantityLines
 }
 
 // What stands past the last quantity.
-fn no_quantity() -> Quantity
+pub fn no_quantity() -> Quantity
     ensures { λ r. ⌜ r ≡ no-quantity ⌝ }
 {
     Quantity {
@@ -351,4 +352,12 @@ pub fn read(text: &[u8]) -> ReadSheet
     ensures numbered { λ r. ⌜ Gives (r .outcome) (result (model.readSheet (now (text .entry)) .outcome)) 0 ⌝ }
 {
     read_to(text, MOST_STEPS as u32)
+}
+
+// The reading of a stored sheet, which may have more steps.
+pub fn read_stored(text: &[u8]) -> ReadSheet
+    ensures whole { λ r. ⌜ r ≡ model.readSheetTo stored-steps (now (text .entry)) ⌝ }
+    ensures numbered { λ r. ⌜ Gives (r .outcome) (result (model.readSheetTo stored-steps (now (text .entry)) .outcome)) 0 ⌝ }
+{
+    read_to(text, STORED_STEPS as u32)
 }

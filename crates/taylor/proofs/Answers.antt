@@ -26,8 +26,9 @@ use Rattle.model.proofs.Ranges.{below, largest-bounded}
 use Rattle.model.proofs.Invariant.{scale-le-greatest}
 use Rattle.model.proofs.Taken.{length-row}
 use Rattle.taylor.specs.Ratio.{Reaching}
-use Rattle.taylor.specs.Step.{answered}
-use Rattle.taylor.specs.declared.step.Advance.the-variants.{Moves, Stops}
+use Rattle.taylor.specs.Step.{rowLaidOut, answered}
+use Rattle.taylor.specs.declared.step.Advance.the-variants.{Moves}
+use Rattle.taylor.specs.declared.step.Numbers.{Numbers}
 use Rattle.taylor.specs.declared.step.Stepped.{Stepped}
 use Rattle.taylor.proofs.Balls.{getD-balls, greatest-is}
 use Rattle.taylor.proofs.LaidOut.{balls-laid-out}
@@ -43,7 +44,7 @@ each-ball : (test : Ball → Bool) (n : ℕ) (values : List ℤ) (radii : List �
 each-ball test n values radii = rw (length-balls n values radii) (every-equal n _ _ (λ i h. ap test (getD-balls n values radii i h)))
 
 -- question 4, asked of the arrays
-small-is : (n : ℕ) (values : List ℤ) (radii : List ℕ) → small (ballsIn n values radii) ≡ every n (λ i. leb (reach (ballIn values radii i)) most)
+pub small-is : (n : ℕ) (values : List ℤ) (radii : List ℕ) → small (ballsIn n values radii) ≡ every n (λ i. leb (reach (ballIn values radii i)) most)
 unfolding small
 small-is n values radii = each-ball (λ ball. leb (reach ball) most) n values radii
 
@@ -80,35 +81,35 @@ module _ (terms : List Term) (head : Head) (start : Balls) where
   answer = answered start (passage.advance terms (head .step) (head .tail) (head .tol) balls)
 
   -- question 4 is answered no
-  pub too-large : small-in-arrays ≡ false → record { advance = Stops TooLarge; balls = start } ≡ answer
+  pub too-large : small-in-arrays ≡ false → answered start (passage.stops TooLarge) ≡ answer
   unfolding passage.advance question answered
   too-large no-4 = rw (small-is (head .n) (start .values) (start .radii), no-4)
 
   module _ (yes-4 : small-in-arrays ≡ true) (q : ℕ) (is-ratio : q ≡ ratio terms (head .step) (head .n) (greatest balls)) where
     -- question 5 is answered no
-    pub too-long : most-ratio < q → record { advance = Stops StepTooLong; balls = start } ≡ answer
+    pub too-long : most-ratio < q → answered start (passage.stops StepTooLong) ≡ answer
     unfolding passage.advance question answered
     too-long no-5 =
         rw (small-is (head .n) (start .values) (start .radii), yes-4, slow-is terms (head .step) (head .n) (start .values) (start .radii), ← is-ratio, lt-leb q most-ratio no-5)
 
-    module _ (yes-5 : q ≤ most-ratio) (row : Balls) (is-row : row ≡ laidOut (stepRow terms (head .step) (head .tail) balls .balls)) where
+    module _ (yes-5 : q ≤ most-ratio) (row : Numbers) (is-row : row ≡ rowLaidOut (stepRow terms (head .step) (head .tail) balls)) where
       -- the row that the step comes to
       abbrev next-row : Row
       next-row = stepRow terms (head .step) (head .tail) balls
 
       -- question 6 is left
-      goes-on : passage.advance terms (head .step) (head .tail) (head .tol) balls ≡ question (tolerable-in-arrays row) Intolerable (passage.moves next-row)
-      unfolding passage.advance question tolerated
+      goes-on : passage.advance terms (head .step) (head .tail) (head .tol) balls ≡ question (tolerable-in-arrays (row .balls)) Intolerable (passage.moves next-row)
+      unfolding passage.advance question tolerated rowLaidOut
       goes-on =
           rw (small-is (head .n) (start .values) (start .radii), yes-4, slow-is terms (head .step) (head .n) (start .values) (start .radii), ← is-ratio, le-leb q most-ratio yes-5, is-row, tolerable-laid-out (head .tol) (head .n) (next-row .balls) (length-row terms (head .step) (head .tail) balls ∙ length-balls (head .n) (start .values) (start .radii)))
 
       -- question 6 is answered no
-      pub intolerable : tolerable-in-arrays row ≡ false → record { advance = Stops Intolerable; balls = start } ≡ answer
+      pub intolerable : tolerable-in-arrays (row .balls) ≡ false → answered start (passage.stops Intolerable) ≡ answer
       unfolding question answered
       intolerable no-6 = rw (goes-on, no-6)
 
       -- all are answered yes
-      pub moved : {d : ℕ} → d ≡ next-row .degree → tolerable-in-arrays row ≡ true → record { advance = Moves d; balls = row } ≡ answer
+      pub moved : {d : ℕ} → d ≡ next-row .degree → tolerable-in-arrays (row .balls) ≡ true → record { advance = Moves d; numbers = row } ≡ answer
       unfolding question answered
       moved is-degree yes-6 = rw (goes-on, yes-6, is-row, is-degree)
 

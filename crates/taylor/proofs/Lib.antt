@@ -2,4 +2,4 @@ mod Balls
 mod Ratios
 pub mod LaidOut
 mod StepRow
-mod Answers
+pub mod Answers

@@ -4,8 +4,8 @@ use mathlib.Core.List.{List}
 use mathlib.Core.Path.{_≡_}
 use lib.IntN.{ℤ}
 use Rattle.model.specs.Sheet.{number, most-quantities}
-use Rattle.model.specs.Step.{most-degree}
-use Rattle.model.specs.Rows.{laidOut}
+use Rattle.model.specs.Step.{most-degree, Row}
+use Rattle.model.specs.Rows.{laidOut, spansLaidOut, no-spans}
 use Rattle.model.specs.Passage as passage
 use Rattle.model.specs.Bounds.{TermsInBounds, InBounds}
 use Rattle.model.specs.declared.Ball.{Ball}
@@ -16,6 +16,7 @@ use Rattle.coefficients.specs.Orders.{Usable}
 use Rattle.taylor.specs.declared.degree.Truncation.{Truncation}
 use Rattle.taylor.specs.declared.step.Advance.{Advance}
 use Rattle.taylor.specs.declared.step.Advance.the-variants.{Moves, Stops}
+use Rattle.taylor.specs.declared.step.Numbers.{Numbers}
 use Rattle.taylor.specs.declared.step.Stepped.{Stepped}
 
 -- ---- what a step asks
@@ -37,10 +38,14 @@ pub record CanRow (head : Head) (cut : Truncation) (terms : List Term) (balls : 
 
 -- ---- what it comes to
 
--- a step's answer, whole: the row's degree and its balls laid out; or the refusal, and the balls that the step started from
+-- a row's balls and spans, laid out
+unfoldable pub rowLaidOut : Row → Numbers
+rowLaidOut row = record { balls = laidOut (row .balls); spans = spansLaidOut (row .spans) }
+
+-- a step's answer, whole: the row's degree, its balls and spans laid out; or the refusal, the balls that the step started from, and no spans
 unfoldable pub answered : Balls → passage.Advance → Stepped
-answered start (passage.moves row) = record { advance = Moves (row .degree); balls = laidOut (row .balls) }
-answered start (passage.stops r) = record { advance = Stops r; balls = start }
+answered start (passage.moves row) = record { advance = Moves (row .degree); numbers = rowLaidOut row }
+answered start (passage.stops r) = record { advance = Stops r; numbers = record { balls = start; spans = no-spans } }
 
 -- ---- document 01's number and values of an answer
 

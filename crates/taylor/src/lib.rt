@@ -6,5 +6,8 @@ mod step;
 pub use ratio::SUMS;
 pub use ratio::sums_of;
 pub use step::Advance;
+pub use step::Numbers;
 pub use step::Stepped;
+pub use step::small;
+pub use step::stopped;
 pub use step::take_step;

@@ -7,11 +7,11 @@ ghost use lib.ListN.{getD};
 ghost use Rattle.model.specs.Range.{every};
 ghost use Rattle.model.specs.Sheet.{most, «most-quantities», listed};
 ghost use Rattle.model.specs.Step as rule;
-ghost use Rattle.model.specs.Rows.{ballIn, ballsIn, ballsOf, laidOut};
+ghost use Rattle.model.specs.Rows.{ballIn, ballsIn, ballsOf};
 ghost use Rattle.model.specs.Passage as passage;
 ghost use Rattle.coefficients.specs.Orders.{Usable};
 ghost use Rattle.taylor.specs.Ratio.{SumsOf};
-ghost use Rattle.taylor.specs.Step.{CanRow, CanStep, answered};
+ghost use Rattle.taylor.specs.Step.{CanRow, CanStep, rowLaidOut, answered};
 use crate::degree::Truncation;
 use crate::degree::truncate;
 use crate::ratio::SUMS;
@@ -19,6 +19,7 @@ use crate::ratio::largest_reach;
 use crate::ratio::ratio;
 use coefficients::fill_orders;
 use coefficients::new_row;
+use coefficients::new_spans;
 use coefficients::start_orders;
 use model::Balls;
 use model::Head;
@@ -26,6 +27,7 @@ use model::MOST;
 use model::MOST_QUANTITIES;
 use model::MOST_RATIO;
 use model::Refusal;
+use model::Spans;
 use model::Terms;
 use products::PLACES;
 use rounding::magnitude;
@@ -36,14 +38,37 @@ pub enum Advance {
     Stops(Refusal),
 }
 
-// What a step comes to, and the values and radii after it: a refused step leaves those that it started from.
+// A row's values and radii, its lows and highs.
+pub struct Numbers {
+    pub balls: Balls,
+    pub spans: Spans,
+}
+
+// What a step comes to, and the numbers of its row. A refused step leaves the values and radii that it started from, and
+// no lows and highs.
 pub struct Stepped {
     pub advance: Advance,
-    pub balls: Balls,
+    pub numbers: Numbers,
+}
+
+// A step that is refused.
+pub fn stopped(refusal: Refusal, start: Balls) -> Stepped
+    ensures { λ r. ⌜ r ≡ answered start (passage.stops refusal) ⌝ }
+{
+    Stepped {
+        advance: Advance::Stops(refusal),
+        numbers: Numbers {
+            balls: start,
+            spans: Spans {
+                lows: [0i64; MOST_QUANTITIES],
+                highs: [0i64; MOST_QUANTITIES],
+            },
+        },
+    }
 }
 
 // Question 4: is |value| + radius at most 32 wholes for every quantity?
-fn small<'a>(
+pub fn small<'a>(
     n: usize,
     values: &'a [i64; MOST_QUANTITIES],
     radii: &'a [u64; MOST_QUANTITIES],
@@ -81,7 +106,7 @@ fn tolerable(n: usize, tol: u64, radii: &[u64; MOST_QUANTITIES]) -> bool
     true
 }
 
-// The values and radii of the new row of a step whose questions 4 and 5 are answered yes, with 0 past n.
+// The numbers of the new row of a step whose questions 4 and 5 are answered yes, with 0 past n.
 fn row_of<'a>(
     head: Head,
     cut: Truncation,
@@ -90,9 +115,9 @@ fn row_of<'a>(
     radii: &'a [u64; MOST_QUANTITIES],
     values: &mut [i64; PLACES],
     reaches: &mut [u64; PLACES],
-) -> Balls
+) -> Numbers
     requires { ⌜ CanRow head cut (listed terms) (ballsIn (head .n) (now start) (now radii)) (now values) (now reaches) ⌝ }
-    ensures row { λ r. ⌜ r ≡ laidOut (rule.newRow (listed terms) (head .step) (ballsIn (head .n) (now (start .entry)) (now (radii .entry))) (cut .degree) (cut .tail) .balls) ⌝ }
+    ensures row { λ r. ⌜ r ≡ rowLaidOut (rule.newRow (listed terms) (head .step) (ballsIn (head .n) (now (start .entry)) (now (radii .entry))) (cut .degree) (cut .tail)) ⌝ }
     ensures usable { λ _. ⌜ Usable (head .n) (now (values .exit)) (now (reaches .exit)) ⌝ }
 {
     let n = head.n;
@@ -101,6 +126,8 @@ fn row_of<'a>(
     fill_orders(n, head.step, degree, terms, values, reaches);
     let mut row = [0i64; MOST_QUANTITIES];
     let mut row_radii = [0u64; MOST_QUANTITIES];
+    let mut lows = [0i64; MOST_QUANTITIES];
+    let mut highs = [0i64; MOST_QUANTITIES];
     new_row(
         n,
         degree,
@@ -110,9 +137,13 @@ fn row_of<'a>(
         &mut row,
         &mut row_radii,
     );
-    Balls {
-        values: row,
-        radii: row_radii,
+    new_spans(n, degree, cut.tail, values, reaches, &mut lows, &mut highs);
+    Numbers {
+        balls: Balls {
+            values: row,
+            radii: row_radii,
+        },
+        spans: Spans { lows, highs },
     }
 }
 
@@ -134,21 +165,15 @@ pub fn take_step(
 {
     let n = head.n;
     if !small(n, &start.values, &start.radii) {
-        return Stepped {
-            advance: Advance::Stops(Refusal::TooLarge),
-            balls: start,
-        };
+        return stopped(Refusal::TooLarge, start);
     }
     let reach = largest_reach(n, &start.values, &start.radii);
     let q = ratio(n, head.step, reach, sums);
     if MOST_RATIO < q {
-        return Stepped {
-            advance: Advance::Stops(Refusal::StepTooLong),
-            balls: start,
-        };
+        return stopped(Refusal::StepTooLong, start);
     }
     let cut = truncate(reach, q, head.tail);
-    let balls = row_of(
+    let numbers = row_of(
         head,
         cut,
         terms,
@@ -157,14 +182,12 @@ pub fn take_step(
         values,
         reaches,
     );
+    let balls = numbers.balls;
     if !tolerable(n, head.tol, &balls.radii) {
-        return Stepped {
-            advance: Advance::Stops(Refusal::Intolerable),
-            balls: start,
-        };
+        return stopped(Refusal::Intolerable, start);
     }
     Stepped {
         advance: Advance::Moves(cut.degree),
-        balls,
+        numbers,
     }
 }

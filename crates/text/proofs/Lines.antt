@@ -1,38 +1,60 @@
--- The text of balls and of rows, one more at a time. Assumes nothing.
+-- The text of quantities and of rows, one more at a time. Assumes nothing.
 use Prim.Native.Nat.{ℕ, suc, _+_}
 use mathlib.Core.Path.{_≡_, refl, sym, ap, _∙_}
-use mathlib.Core.List.{List, [], _∷_, _++_, append-assoc}
+use mathlib.Core.List.{List, [], _∷_, _++_, append-assoc, append-nil}
 use native.Mathlib.Nat.{add-zero, add-suc, suc-add}
 use native.Mathlib.Omega.{arith}
 use lib.IntN.{ℤ, pos}
 use lib.ListN.{length, getD}
 use Rattle.model.specs.Range.{tabulate}
-use Rattle.model.specs.Step.{no-ball, Row}
+use Rattle.model.specs.Step.{no-ball, no-span, Row}
 use Rattle.model.specs.Rows.{rowIn}
-use Rattle.model.specs.Answer.{printed, ballsText, rowsText}
+use Rattle.model.specs.Answer.{printed, quantitiesText, rowsText}
 use Rattle.model.specs.declared.Ball.{Ball}
+use Rattle.model.specs.declared.Span.{Span}
 use Rattle.model.proofs.Ranges.{length-tabulate, tabulate-is}
 use Rattle.decimal.proofs.Pieces.{Grows}
 
-pub balls-append : (some more : List Ball) → ballsText (some ++ more) ≡ ballsText some ++ ballsText more
-unfolding ballsText
-balls-append [] more = refl
-balls-append (ball ∷ some) more =
-    rw (balls-append some more) (sym (append-assoc (printed "value" (ball .value) ++ printed "radius" (pos (ball .radius))) (ballsText some) (ballsText more)))
+-- the lines of one quantity: of its ball, and of its span
+abbrev pub quantityLines : Ball → Span → List ℕ
+quantityLines ball span = printed "value" (ball .value) ++ printed "radius" (pos (ball .radius)) ++ (printed "low" (span .low) ++ printed "high" (span .high))
+
+pub quantity-first : (ball : Ball) (span : Span) (balls : List Ball) (spans : List Span) → quantitiesText (ball ∷ balls) (span ∷ spans) ≡ quantityLines ball span ++ quantitiesText balls spans
+unfolding quantitiesText
+quantity-first ball span balls spans =
+    ap (λ (text : List ℕ). text ++ quantitiesText balls spans) (append-assoc (printed "value" (ball .value) ++ printed "radius" (pos (ball .radius))) (printed "low" (span .low)) (printed "high" (span .high)))
+
+-- one quantity more
+pub quantities-more : (balls : List Ball) (spans : List Span) (ball : Ball) (span : Span) → length balls ≡ length spans → quantitiesText (balls ++ (ball ∷ [])) (spans ++ (span ∷ [])) ≡ quantitiesText balls spans ++ quantityLines ball span
+unfolding quantitiesText
+quantities-more [] [] ball span h = quantity-first ball span [] [] ∙ append-nil (quantityLines ball span)
+quantities-more [] (other ∷ spans) ball span h = absurd (omega arith)
+quantities-more (other ∷ balls) [] ball span h = absurd (omega arith)
+quantities-more (b ∷ balls) (s ∷ spans) ball span h =
+    quantity-first b s (balls ++ (ball ∷ [])) (spans ++ (span ∷ [])) ∙ ap (λ (text : List ℕ). quantityLines b s ++ text) (quantities-more balls spans ball span (omega arith))
+    ∙ sym (append-assoc (quantityLines b s) (quantitiesText balls spans) (quantityLines ball span)) ∙ ap (λ (text : List ℕ). text ++ quantityLines ball span) (sym (quantity-first b s balls spans))
 
 pub rows-append : (number : ℕ) (some more : List Row) → rowsText number (some ++ more) ≡ rowsText number some ++ rowsText (number + length some) more
 unfolding rowsText
 rows-append number [] more = rw (add-zero number)
 rows-append number (row ∷ some) more =
-    rw (rows-append (suc number) some more, add-suc number (length some), suc-add number (length some)) (sym (append-assoc (printed "row" (pos number) ++ printed "degree" (pos (row .degree)) ++ ballsText (row .balls)) (rowsText (suc number) some) (rowsText (suc (number + length some)) more)))
+    rw (rows-append (suc number) some more, add-suc number (length some), suc-add number (length some)) (sym (append-assoc (printed "row" (pos number) ++ printed "degree" (pos (row .degree)) ++ quantitiesText (row .balls) (row .spans)) (rowsText (suc number) some) (rowsText (suc (number + length some)) more)))
 
 -- ball i of row j of a buffer
 abbrev pub ballAt : ℕ → List ℤ → ℕ → ℕ → Ball
 ballAt n rows j i = getD (rowIn n rows j .balls) i no-ball
 
+-- its span i
+abbrev pub spanAt : ℕ → List ℤ → ℕ → ℕ → Span
+spanAt n rows j i = getD (rowIn n rows j .spans) i no-span
+
 pub length-row-balls : (n : ℕ) (rows : List ℤ) (j : ℕ) → length (rowIn n rows j .balls) ≡ n
 unfolding rowIn
 length-row-balls n rows j = length-tabulate n _
+
+pub length-row-spans : (n : ℕ) (rows : List ℤ) (j : ℕ) → length (rowIn n rows j .spans) ≡ n
+unfolding rowIn
+length-row-spans n rows j = length-tabulate n _
 
 -- the first n are all
 pub all-balls : (n : ℕ) (rows : List ℤ) (j : ℕ) → tabulate n (ballAt n rows j) ≡ rowIn n rows j .balls
@@ -40,10 +62,15 @@ unfolding rowIn
 all-balls n rows j =
     tabulate-is n (ballAt n rows j) no-ball (rowIn n rows j .balls) (length-row-balls n rows j) (λ i h. refl)
 
--- a ball more
-pub balls-grow : (ball : ℕ → Ball) → Grows (λ i. ballsText (tabulate i ball)) (λ i. ballsText (ball i ∷ []))
+pub all-spans : (n : ℕ) (rows : List ℤ) (j : ℕ) → tabulate n (spanAt n rows j) ≡ rowIn n rows j .spans
+unfolding rowIn
+all-spans n rows j =
+    tabulate-is n (spanAt n rows j) no-span (rowIn n rows j .spans) (length-row-spans n rows j) (λ i h. refl)
+
+-- a quantity more
+pub quantities-grow : (ball : ℕ → Ball) (span : ℕ → Span) → Grows (λ i. quantitiesText (tabulate i ball) (tabulate i span)) (λ i. quantityLines (ball i) (span i))
 unfolding tabulate
-balls-grow ball i = balls-append (tabulate i ball) (ball i ∷ [])
+quantities-grow ball span i = quantities-more (tabulate i ball) (tabulate i span) (ball i) (span i) (length-tabulate i ball ∙ sym (length-tabulate i span))
 
 -- a row more: row j, from 0, has number j + 1
 pub rows-grow : (row : ℕ → Row) → Grows (λ j. rowsText 1 (tabulate j row)) (λ j. rowsText (suc j) (row j ∷ []))

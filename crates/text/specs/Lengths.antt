@@ -1,10 +1,7 @@
 -- A bound on the bytes of an answer, and of its parts: each line has no more digits than its number can have.
 use Prim.Native.Nat.{ℕ, _+_, _-_, _*_}
 use Rattle.model.specs.Sheet.{most-quantities, most-steps}
-
--- a line: a key of so many bytes, `=`, so many digits with their sign, and the line feed
-abbrev pub most-line : ℕ → ℕ → ℕ
-most-line key digits = key + digits + 2
+use Rattle.decimal.specs.Pieces.{most-line}
 
 -- the digits of a value that question 4 has let pass ..
 abbrev pub passed-digits : ℕ
@@ -18,9 +15,21 @@ value-digits = 10
 abbrev pub most-ball : ℕ → ℕ
 most-ball digits = most-line 5 (digits + 1) + most-line 6 9
 
--- a row's number, of three digits, its degree, of two, and its n balls
+-- the digits of a low and of a high
+abbrev pub span-digits : ℕ
+span-digits = 10
+
+-- a low and a high, each with a sign
+abbrev pub most-span-lines : ℕ
+most-span-lines = most-line 3 (span-digits + 1) + most-line 4 (span-digits + 1)
+
+-- a quantity's four lines
+abbrev pub most-quantity : ℕ → ℕ
+most-quantity digits = most-ball digits + most-span-lines
+
+-- a row's number, of three digits, its degree, of two, and its n quantities
 abbrev pub most-row : ℕ → ℕ → ℕ
-most-row digits n = most-line 3 3 + most-line 6 2 + n * most-ball digits
+most-row digits n = most-line 3 3 + most-line 6 2 + n * most-quantity digits
 
 -- a result, of two digits, and the refused step, of three
 abbrev pub most-outcome : ℕ

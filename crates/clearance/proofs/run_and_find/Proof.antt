@@ -29,7 +29,7 @@ returns c =
     let ran = counted .before .before in
     let args = ran .before .before .args in
     let own = found-in-own (args .sheet) (args .query) (ran .run .ensures .0) (counted .rows-written .ensures) (c .first-clear .ensures) in
-    (ran .run .ensures .0, (ran .run .ensures .1 .0, (ran .run .ensures .1 .1, own)))
+    (ran .run .ensures .0, (ran .run .ensures .1 .0, (ran .run .ensures .1 .1 .0, (ran .run .ensures .1 .1 .1, own))))
 
 run-requires : tie.Need-run-requires
 run-requires c κs = search needs

@@ -21,9 +21,10 @@ use Rattle.coefficients.specs.Orders.{Usable}
 use Rattle.coefficients.proofs.Filling.{blank-usable}
 use Rattle.taylor.specs.Ratio.{SumsOf}
 use Rattle.taylor.specs.Step.{answered}
+use Rattle.taylor.specs.declared.step.Numbers.{Numbers}
 use Rattle.taylor.specs.declared.step.Stepped.{Stepped}
 use Rattle.taylor.specs.declared.step.Advance.the-variants.{Stops}
-use Rattle.model.proofs.Rows.{length-balls}
+use Rattle.model.proofs.Rows.{length-balls, length-spans}
 use Rattle.passage.proofs.Steps.{rowOf, step-moves, step-stops, radii-at-most}
 use borrow.Author.Needs.{needs}
 use Rattle.passage.proofs.run_steps.Statement.{statement}
@@ -35,8 +36,9 @@ refused-at balls stepped underway room left is e =
     finished-by-refusal _ underway room left (step-stops balls _ stepped _ is e)
 
 -- the row of a step, put behind the rows before it
-one-row-more : {terms : List Term} {H : ℤ} {limit tol steps n done degree : ℕ} {start balls : List Ball} {buffer held after : List ℤ} (row : Balls) → Underway terms H limit tol steps n start buffer done balls held → done < steps → advance terms H limit tol balls ≡ moves (rowOf n degree row) → after ≡ sets held (done * width n) (rowPlaces (rowOf n degree row)) → Underway terms H limit tol steps n start buffer (done + 1) (ballsOf n row) after
-one-row-more {n = n} row underway left e stored = rw stored (moved _ underway left e (length-balls n (row .values) (row .radii)))
+one-row-more : {terms : List Term} {H : ℤ} {limit tol steps n done degree : ℕ} {start balls : List Ball} {buffer held after : List ℤ} (row : Numbers) → Underway terms H limit tol steps n start buffer done balls held → done < steps → advance terms H limit tol balls ≡ moves (rowOf n degree row) → after ≡ sets held (done * width n) (rowPlaces (rowOf n degree row)) → Underway terms H limit tol steps n start buffer (done + 1) (ballsOf n (row .balls)) after
+one-row-more {n = n} row underway left e stored =
+    rw stored (moved _ underway left e (record { balls = length-balls n (row .balls .values) (row .balls .radii); spans = length-spans n (row .spans) }))
 
 abbrev Inv-loop : tie.InvT-loop
 Inv-loop head terms rows₀ n steps sums values₀ reaches₀ balls₀ done₀ rows values reaches balls done =
@@ -69,11 +71,11 @@ left c = c .before .before .before .before .loop-test .taken
 
 -- where the step has a row, it is that of the definition
 row-is : (c : tie.After-advance2 Inv-loop μ-loop) →
-    let stepped = c .before .before .before in
+    let stepped = c .before .before .before .before in
     let head = at-start stepped .args .head in
-    advance (listed (at-start stepped .args .terms)) (head .step) (head .tail) (head .tol) (ballsOf (head .n) (turn stepped .loop .balls)) ≡ moves (rowOf (head .n) (c .advance2 .given .0 .0) (stepped .take-step .result .balls))
+    advance (listed (at-start stepped .args .terms)) (head .step) (head .tail) (head .tol) (ballsOf (head .n) (turn stepped .loop .balls)) ≡ moves (rowOf (head .n) (c .advance2 .given .0 .0) (stepped .take-step .result .numbers))
 row-is c =
-    let stepped = c .before .before .before in
+    let stepped = c .before .before .before .before in
     step-moves _ _ _ _ (at-start stepped .args .head .n) _ (stepped .take-step .result) _ (stepped .take-step .ensures .0) (c .advance2 .given .1)
 
 -- ---- the results
@@ -83,13 +85,13 @@ loop-holds c = (underway-at-start _ _ _ _, blank-usable _)
 
 returns : tie.Need-returns Inv-loop μ-loop
 returns c =
-    let stepped = c .before .before .before .before in
+    let stepped = c .before .before .before .before .before in
     refused-at (turn stepped .loop .balls) (stepped .take-step .result) (turn stepped .loop .inv .0) (at-start stepped .pre .room) (left stepped) (stepped .take-step .ensures .0) (c .before .advance .given .1)
 
 loop-again : tie.Need-loop-again Inv-loop μ-loop
 loop-again c =
-    let stepped = c .before .before .before .before .before .before .before in
-    (one-row-more (stepped .take-step .result .balls) (turn stepped .loop .inv .0) (left stepped) (row-is (c .before .before .before .before)) (c .before .put-row .ensures), stepped .take-step .ensures .1)
+    let stepped = c .before .before .before .before .before .before .before .before in
+    (one-row-more (stepped .take-step .result .numbers) (turn stepped .loop .inv .0) (left stepped) (row-is (c .before .before .before .before)) (c .before .put-row .ensures), stepped .take-step .ensures .1)
 
 returns-2 : tie.Need-returns-2 Inv-loop μ-loop
 returns-2 c = finished (c .before .loop .inv .0) (c .before .before .before .pre .room) (c .loop-test .left)
@@ -110,33 +112,33 @@ enum-known-advance c = search needs
 
 add-number : tie.Need-add-number Inv-loop μ-loop
 add-number c =
-    let stepped = c .before .before .before .before in
+    let stepped = c .before .before .before .before .before in
     omega (arith, at-start stepped .pre .steps, left stepped)
 
 same-length : tie.Need-same-length Inv-loop μ-loop
-same-length c = underway-length (turn (c .before .before .before .before) .loop .inv .0)
+same-length c = underway-length (turn (c .before .before .before .before .before) .loop .inv .0)
 
 enum-known-advance-2 : tie.Need-enum-known-advance-2 Inv-loop μ-loop
 enum-known-advance-2 c = search needs
 
 put-row-requires : tie.Need-put-row-requires Inv-loop μ-loop
 put-row-requires c κs =
-    let stepped = c .before .before .before .before .before in
+    let stepped = c .before .before .before .before .before .before in
     let pre = at-start stepped .pre in
     let moves = row-is (c .before .before) in
     record {
       place = record { few = pre .each .room; room = room-for-row (turn stepped .loop .inv .0) (pre .room) (left stepped) };
       degree-fits = omega (arith, degree-at-most _ _ _ _ _ moves);
-      radii-fit = λ i h. omega (arith, radii-at-most _ _ _ _ _ (at-start stepped .args .head .n) _ (stepped .take-step .result .balls) moves i h, pre .tol);
+      radii-fit = λ i h. omega (arith, radii-at-most _ _ _ _ _ (at-start stepped .args .head .n) _ (stepped .take-step .result .numbers) moves i h, pre .tol);
     }
 
 add-done : tie.Need-add-done Inv-loop μ-loop
 add-done c =
-    let stepped = c .before .before .before .before .before .before .before in
+    let stepped = c .before .before .before .before .before .before .before .before in
     omega (arith, at-start stepped .pre .steps, left stepped)
 
 loop-less : tie.Need-loop-less Inv-loop μ-loop
-loop-less c = omega (arith, left (c .before .before .before .before .before .before .before))
+loop-less c = omega (arith, left (c .before .before .before .before .before .before .before .before))
 
 same-length-2 : tie.Need-same-length-2 Inv-loop μ-loop
 same-length-2 c = underway-length (c .before .loop .inv .0)

@@ -1,5 +1,5 @@
 -- `passage::step` meets its contract. Assumes nothing.
-use mathlib.Core.Path.{_≡_}
+use mathlib.Core.Path.{_≡_, sym, ap, _∙_}
 use Rattle.model.specs.Sheet.{passes, sheetVerdict, listed, termsOf}
 use Rattle.coefficients.proofs.Filling.{blank-usable}
 use Rattle.taylor.specs.Ratio.{SumsOf}
@@ -21,11 +21,11 @@ sums-are : (c : tie.After-sums-of) → SumsOf (listed (c .before .gather .result
 sums-are c = c .sums-of .ensures
 
 returns : tie.Need-returns
-unfolding answered
 returns c =
-    let args = c .before .before .before .before .args in
-    let refused = refuses-as (sheetVerdict (args .sheet)) (c .before .before .before .verdict .ensures .0) (c .before .refused .given .1) in
-    with-its-number (args .start) _ (rw (step-of-refused (args .sheet) _ refused))
+    let asked = c .before .before .before .before in
+    let args = asked .before .args in
+    let refused = refuses-as (sheetVerdict (args .sheet)) (asked .verdict .ensures .0) (c .before .before .refused .given .1) in
+    with-its-number (args .start) _ (c .stopped .ensures ∙ ap (answered (args .start)) (sym (step-of-refused (args .sheet) _ refused)))
 
 returns-2 : tie.Need-returns-2
 unfolding termsOf
@@ -40,6 +40,9 @@ verdict-requires c κs = search needs
 
 enum-known-refused : tie.Need-enum-known-refused
 enum-known-refused c = search needs
+
+stopped-requires : tie.Need-stopped-requires
+stopped-requires c κs = search needs
 
 enum-told : tie.Need-enum-told
 enum-told c = search needs
@@ -65,6 +68,7 @@ step-spec =
     (tie.spec
     verdict-requires
     enum-known-refused
+    stopped-requires
     returns
     enum-told
     gather-requires

@@ -1,7 +1,7 @@
 -- `text::put_ball` meets its contract: the value's line and the radius's. Assumes nothing.
 use Prim.Native.Nat.{ℕ, _^_, _≤_, _<_}
 use mathlib.Core.Path.{_≡_, sym}
-use mathlib.Core.List.{[], _∷_, _++_, append-nil}
+use mathlib.Core.List.{_++_}
 use native.Mathlib.Omega.{arith}
 use borrow.Author.Needs.{needs}
 use lib.IntN.{ℤ, pos}
@@ -11,11 +11,12 @@ use mir.Val.{toZ, ofZ}
 use mir.Facts.{toZ-ofZ}
 use Rattle.model.specs.Range.{bytes}
 use Rattle.model.specs.Sheet.{most}
-use Rattle.model.specs.Answer.{printed, ballsText}
+use Rattle.model.specs.Answer.{printed}
 use Rattle.decimal.specs.Pieces.{Room}
+use Rattle.decimal.proofs.Lengths.{natural-fits, of-bits}
 use Rattle.decimal.proofs.Pieces.{put-then, put-same, room-first, room-rest, room-same}
 use Rattle.text.specs.Lengths.{value-digits, most-ball}
-use Rattle.text.proofs.Lengths.{natural-fits, of-bits, length-ball}
+use Rattle.text.proofs.Lengths.{length-ball}
 use Rattle.text.proofs.put_ball.Statement.{statement}
 use Rattle.text.proofs.put_ball.Tie as tie
 
@@ -31,13 +32,13 @@ module _ (start : tie.Start) where
   radius-short = omega (arith, start .pre .1 .0)
 
   -- the two lines, of numbers of which the code hands over the bits
-  two-lines : ballsText (record { value = value; radius = radius } ∷ []) ≡ printed "value" (toZ w64 (ofZ w64 value)) ++ printed "radius" (toZ w64 (ofZ w64 (pos radius)))
-  unfolding ballsText value
-  two-lines = rw (toZ-ofZ (start .fits .value), of-bits radius-short, append-nil)
+  two-lines : printed "value" value ++ printed "radius" (pos radius) ≡ printed "value" (toZ w64 (ofZ w64 value)) ++ printed "radius" (toZ w64 (ofZ w64 (pos radius)))
+  unfolding value
+  two-lines = rw (toZ-ofZ (start .fits .value), of-bits radius-short)
 
-  length-lines : length (ballsText (record { value = value; radius = radius } ∷ [])) ≤ most-ball value-digits
+  length-lines : length (printed "value" value ++ printed "radius" (pos radius)) ≤ most-ball value-digits
   unfolding value radius most
-  length-lines = length-ball value-digits _ (omega arith) (omega (arith, start .pre .0)) (start .pre .1 .0)
+  length-lines = length-ball value-digits _ _ (omega arith) (omega (arith, start .pre .0)) (start .pre .1 .0)
 
   room-lines : Room (start .args .text .now) (start .args .at) (printed "value" (toZ w64 (ofZ w64 value)) ++ printed "radius" (toZ w64 (ofZ w64 (pos radius))))
   room-lines = room-same two-lines (record { fits = omega (arith, start .pre .1 .1, length-lines) })

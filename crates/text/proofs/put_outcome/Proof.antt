@@ -11,13 +11,14 @@ use Rattle.model.specs.Range.{tabulate, bytes}
 use Rattle.model.specs.Answer.{printed, outcomeText}
 use Rattle.model.proofs.Ranges.{length-tabulate}
 use Rattle.decimal.specs.Pieces.{Put}
+use Rattle.decimal.proofs.Lengths.{natural-fits, line-asked, line-put}
 use Rattle.decimal.proofs.Pieces.{put-then, put-same, put-keeps-length, put-taken, room-first, room-rest}
 use Rattle.text.specs.Lengths.{most-outcome}
-use Rattle.text.proofs.Lengths.{natural-fits, line-asked, line-put, result-short, length-outcome}
+use Rattle.text.proofs.Lengths.{result-short, length-outcome}
 use Rattle.text.proofs.put_outcome.Statement.{statement}
 use Rattle.text.proofs.put_outcome.Tie as tie
 
--- the result is at most 10, and the step at most 400
+-- the result is at most 10, and the step has three digits at most
 module _ (known : tie.After-refused-step) where
   step-short : known .refused-step .result < 10 ^ 3
   step-short = omega (arith, known .refused-step .ensures, known .before .before .before .pre .0)

@@ -1,4 +1,4 @@
--- `text::put_row` meets its contract: the lines of the number and the degree, and those of the balls.
+-- `text::put_row` meets its contract: the lines of the number and the degree, and those of the quantities.
 -- Assumes nothing.
 use Prim.Native.Nat.{ℕ, suc, _+_, _^_, _≤_, _<_}
 use mathlib.Core.Path.{_≡_, sym}
@@ -10,19 +10,18 @@ use lib.IntN.{ℤ, pos}
 use lib.ListN.{length, length-append}
 use Rattle.model.specs.Range.{bytes}
 use Rattle.model.specs.Rows.{rowIn}
-use Rattle.model.specs.Answer.{printed, ballsText, rowsText}
-use Rattle.decimal.specs.Pieces.{Put}
+use Rattle.model.specs.Answer.{printed, quantitiesText, rowsText}
+use Rattle.decimal.specs.Pieces.{Put, most-line}
+use Rattle.decimal.proofs.Lengths.{line-asked, line-put, length-natural}
 use Rattle.decimal.proofs.Pieces.{put-then, put-same, put-keeps-length}
-use Rattle.text.specs.Lengths.{most-line}
-use Rattle.text.proofs.Lengths.{line-asked, line-put, length-natural}
 use Rattle.text.proofs.put_row.Statement.{statement}
 use Rattle.text.proofs.put_row.Tie as tie
 
-row-lines : (n : ℕ) (rows : List ℤ) (row : ℕ) {degree : ℕ} → degree ≡ rowIn n rows row .degree → rowsText (suc row) (rowIn n rows row ∷ []) ≡ printed "row" (pos (row + 1)) ++ printed "degree" (pos degree) ++ ballsText (rowIn n rows row .balls)
+row-lines : (n : ℕ) (rows : List ℤ) (row : ℕ) {degree : ℕ} → degree ≡ rowIn n rows row .degree → rowsText (suc row) (rowIn n rows row ∷ []) ≡ printed "row" (pos (row + 1)) ++ printed "degree" (pos degree) ++ quantitiesText (rowIn n rows row .balls) (rowIn n rows row .spans)
 unfolding rowsText
 row-lines n rows row e = rw (e, add-one row, append-nil)
 
--- the number is at most 400 ..
+-- the number is at most 240 ..
 number-short : (start : tie.Start) → start .args .row + 1 < 10 ^ 3
 number-short start = omega (arith, start .pre .1 .1 .0)
 
@@ -57,9 +56,9 @@ returns c =
     let number = head .before .before .before .before .before in
     let degree = number .before .before .before in
     let row = degree .before .before .args in
-    let balls = c .before .before .put-balls .ensures in
-    let put = put-then (head-put head) (balls .0) in
-    (put-same (sym (row-lines (row .n) (row .rows .now) (row .row) (degree .degree-at .ensures))) put, omega (arith, balls .1, head-put head .counted, length-append (printed "row" (pos (row .row + 1))) (printed "degree" (pos (degree .degree-at .result))), number-length (degree .before .before), degree-length degree))
+    let quantities = c .before .before .put-quantities .ensures in
+    let put = put-then (head-put head) (quantities .0) in
+    (put-same (sym (row-lines (row .n) (row .rows .now) (row .row) (degree .degree-at .ensures))) put, omega (arith, quantities .1, head-put head .counted, length-append (printed "row" (pos (row .row + 1))) (printed "degree" (pos (degree .degree-at .result))), number-length (degree .before .before), degree-length degree))
 
 degree-at-requires : tie.Need-degree-at-requires
 degree-at-requires c κs = search needs
@@ -93,8 +92,8 @@ put-line-requires-2 c κs =
     let start = degree .before .before in
     line-asked "degree" (degree .degree-at .result) (omega (arith, degree-short degree)) (record { fits = omega (arith, start .pre .1 .1 .1, number-put number .counted, put-keeps-length (number-put number), number-length start, degree-length degree) })
 
-put-balls-requires : tie.Need-put-balls-requires
-put-balls-requires c κs =
+put-quantities-requires : tie.Need-put-quantities-requires
+put-quantities-requires c κs =
     let head = c .before .before .before in
     let number = head .before .before .before .before .before in
     let degree = number .before .before .before in
@@ -116,6 +115,6 @@ put-row-spec =
     slice-aggregate-put-line-2
     cast-put-line-2
     put-line-requires-2
-    put-balls-requires
+    put-quantities-requires
     same-length
     returns)

@@ -28,7 +28,7 @@ put-rows-requires c κs =
 put-outcome-requires : tie.Need-put-outcome-requires
 put-outcome-requires c κs =
     let rows = c .before .before .before in
-    (rows .before .before .before .pre .1 .1 .1, omega (arith, rows-end rows))
+    (omega (arith, rows .before .before .before .pre .1 .1 .1), omega (arith, rows-end rows))
 
 same-length : tie.Need-same-length
 same-length c = search needs

@@ -1,25 +1,18 @@
 -- `coefficients::row::new_row` meets its contract. The loop's invariant: the new balls of the quantities passed are stored.
 -- Assumes nothing.
-use Prim.Native.Nat.{ℕ, _+_, _-_, _≤_}
-use mathlib.Core.List.{List}
-use mathlib.Core.Path.{_≡_, refl, sym, ap, _∙_}
-use native.Mathlib.Nat.{zero-add}
+use Prim.Native.Nat.{_-_, _≤_}
+use mathlib.Core.Path.{_≡_, refl}
 use native.Mathlib.Omega.{arith}
-use lib.ListN.{set}
 use lib.Seq.{sets}
 use mir.Syntax.{w64}
 use mir.Val.{SFits}
 use mir.Facts.{toZ-ofZ}
 use Rattle.model.specs.Range.{tabulate}
 use Rattle.model.specs.Step.{newBall}
-use Rattle.model.proofs.Stores.{stored-one-more}
+use Rattle.model.proofs.Stores.{stored-in-front}
 use Rattle.products.specs.Table.{tableIn}
 use Rattle.coefficients.proofs.row.new_row.Statement.{statement}
 use Rattle.coefficients.proofs.row.new_row.Tie as tie
-
--- f 0, .., f (i - 1) are stored from the front on, and now f i
-one-more : {A : Type 0} {l : List A} (entry : List A) (i : ℕ) (f : ℕ → A) → l ≡ sets entry 0 (tabulate i f) → set l i (f i) ≡ sets entry 0 (tabulate (i + 1) f)
-one-more {l = l} entry i f e = ap (λ (k : ℕ). set l k (f i)) (sym (zero-add i)) ∙ stored-one-more entry 0 i f e
 
 abbrev Inv-loop : tie.InvT-loop
 Inv-loop n degree tail values reaches row₀ radii₀ i₀ row radii i =
@@ -37,7 +30,7 @@ loop-again c =
     let turn = c .before .before .before in
     let args = turn .before .args in
     let fits : SFits w64 (c .before .new-ball .result .value) = record { sfits = c .struct-told .given .0 .1 } in
-    (omega arith, rw (toZ-ofZ fits, c .before .new-ball .ensures) (one-more (args .row .now) (turn .loop .i) _ (turn .loop .inv .1)), rw (c .before .new-ball .ensures) (one-more (args .radii .now) (turn .loop .i) _ (turn .loop .inv .2)))
+    (omega arith, rw (toZ-ofZ fits, c .before .new-ball .ensures) (stored-in-front (args .row .now) (turn .loop .i) _ (turn .loop .inv .1)), rw (c .before .new-ball .ensures) (stored-in-front (args .radii .now) (turn .loop .i) _ (turn .loop .inv .2)))
 
 returns : tie.Need-returns Inv-loop μ-loop
 returns c = rw all (c .before .loop .inv .1, c .before .loop .inv .2)

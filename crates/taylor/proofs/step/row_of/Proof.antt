@@ -1,24 +1,24 @@
 -- `taylor::step::row_of` meets its contract. The table is filled, and its row is the definition's.
 -- Assumes nothing.
-use Prim.Native.Nat.{ℕ, _≤_, _<_}
+use Prim.Native.Nat.{ℕ, _^_, _≤_, _<_}
 use mathlib.Core.List.{List}
 use mathlib.Core.Path.{_≡_, _∙_}
 use lib.IntN.{ℤ}
 use mir.Syntax.{w64}
 use mir.Val.{toZ, ofZ}
 use mir.Facts.{toZ-ofZ}
-use Rattle.model.specs.Sheet.{most, listed}
-use Rattle.model.specs.Step.{reach, newBall}
+use Rattle.model.specs.Sheet.{most, most-quantities, listed}
+use Rattle.model.specs.Step.{most-degree, reach, newBall, newSpan}
 use Rattle.model.specs.Rows.{ballIn, ballsIn}
 use Rattle.model.specs.Bounds.{InBounds}
 use Rattle.model.specs.declared.Ball.{Ball}
 use Rattle.model.specs.declared.Term.{Term}
-use Rattle.products.specs.Table.{tableIn}
+use Rattle.products.specs.Table.{tableIn, Small}
 use Rattle.coefficients.specs.Orders.{startIn, Filled}
 use Rattle.coefficients.proofs.Filled.{filled-small}
 use Rattle.model.proofs.Rows.{length-balls}
 use Rattle.taylor.proofs.Balls.{getD-balls}
-use Rattle.taylor.proofs.LaidOut.{stored-laid-out}
+use Rattle.taylor.proofs.LaidOut.{stored-laid-out, stored-spans}
 use Rattle.taylor.proofs.StepRow.{start-is, row-is}
 use Rattle.taylor.proofs.step.row_of.Statement.{statement}
 use Rattle.taylor.proofs.step.row_of.Tie as tie
@@ -55,14 +55,23 @@ still-started : (c : tie.After-fill-orders) →
     startIn (at-start .args .head .n) (c .fill-orders .last .1 .1 .1 .1 .0) (c .fill-orders .last .1 .1 .1 .1 .1 .0) ≡ balls at-start
 still-started c = c .fill-orders .ensures .0 ∙ started (c .before .before .before .before)
 
+-- the filled table, from the new row and from the spans
+abbrev at-filled : tie.After-new-row → tie.After-fill-orders
+at-filled c = c .before .before .before .before .before
+
+abbrev at-row : tie.After-new-spans → tie.After-new-row
+at-row c = c .before .before .before .before .before
+
 returns : tie.Need-returns
 returns c =
-    let at-filled = c .before .before .before .before .before in
-    let at-start = at-filled .before .before .before .before .before .before .before in
+    let row = at-row c in
+    let table = at-filled row in
+    let at-start = table .before .before .before .before .before .before .before in
     let cut = at-start .args .cut in
-    let table = tableIn (cut .degree) (at-filled .fill-orders .last .1 .1 .1 .1 .0) (at-filled .fill-orders .last .1 .1 .1 .1 .1 .0) in
-    let row = stored-laid-out (at-start .args .head .n) (newBall table (cut .degree) (cut .tail)) (at-start .pre .room) (c .new-row .ensures .0) (c .new-row .ensures .1) in
-    (row-is (filled at-filled) (at-start .pre .room) (balls at-start) (cut .tail) (length-balls _ _ _) (still-started at-filled) row, filled at-filled .usable)
+    let coefficients = tableIn (cut .degree) (table .fill-orders .last .1 .1 .1 .1 .0) (table .fill-orders .last .1 .1 .1 .1 .1 .0) in
+    let balls-stored = stored-laid-out (at-start .args .head .n) (newBall coefficients (cut .degree) (cut .tail)) (at-start .pre .room) (row .new-row .ensures .0) (row .new-row .ensures .1) in
+    let spans-stored = stored-spans (at-start .args .head .n) (newSpan coefficients (cut .degree) (cut .tail)) (at-start .pre .room) (c .new-spans .ensures .0) (c .new-spans .ensures .1) in
+    (row-is (filled table) (at-start .pre .room) (balls at-start) (cut .tail) (still-started table) (length-balls _ _ _) balls-stored spans-stored, filled table .usable)
 
 -- ---- what the calls ask
 
@@ -86,12 +95,20 @@ fill-orders-requires c κs =
       at-start .pre .degree,
     )
 
+-- what the row and the spans ask alike
+sums-asked : (c : tie.After-fill-orders) →
+    let at-start = c .before .before .before .before .before .before .before in
+    ((at-start .args .head .n ≤ most-quantities) × (at-start .args .cut .degree ≤ most-degree)) × ((at-start .args .cut .tail ≤ 2 ^ 32) × Small (at-start .args .cut .degree) (c .fill-orders .last .1 .1 .1 .1 .0) (c .fill-orders .last .1 .1 .1 .1 .1 .0))
+sums-asked c =
+    let at-start = c .before .before .before .before .before .before .before in
+    ((at-start .pre .room, at-start .pre .degree), (at-start .pre .tail, filled-small (filled c) (rw (still-started c) (at-start .pre .bounds))))
+
 new-row-requires : tie.Need-new-row-requires
-new-row-requires c κs =
-    let at-filled = c .before .before .before .before in
-    let at-start = at-filled .before .before .before .before .before .before .before in
-    ((at-start .pre .room, at-start .pre .degree), (at-start .pre .tail, filled-small (filled at-filled) (rw (still-started at-filled) (at-start .pre .bounds))))
+new-row-requires c κs = sums-asked (c .before .before .before .before)
+
+new-spans-requires : tie.Need-new-spans-requires
+new-spans-requires c κs = sums-asked (at-filled (c .before .before .before .before))
 
 pub row-of-spec : {M : Type 1} → statement M
 row-of-spec =
-    tie.close (tie.spec start-orders-requires fill-orders-requires new-row-requires returns)
+    tie.close (tie.spec start-orders-requires fill-orders-requires new-row-requires new-spans-requires returns)

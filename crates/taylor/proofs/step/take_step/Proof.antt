@@ -6,6 +6,7 @@ use mathlib.Core.List.{List}
 use mathlib.Core.Path.{_≡_, sym, ap, _∙_}
 use native.Mathlib.Omega.{arith}
 use Rattle.model.proofs.Rows.{length-balls}
+use borrow.Author.Needs.{needs}
 use borrow.Author.Tests.{not-true, not-false, leb-true}
 use lib.Dec.{leb}
 use lib.ListN.{length}
@@ -16,14 +17,15 @@ use Rattle.model.specs.Range.{every}
 use Rattle.model.specs.Sheet.{most, listed}
 use Rattle.model.specs.Step.{Row, reach, greatest, ratio, degree, tailAt, newRow, stepRow}
 use Rattle.model.specs.Passage.{most-ratio}
-use Rattle.model.specs.Rows.{ballIn, ballsOf, laidOut}
+use Rattle.model.specs.Rows.{ballIn, ballsOf}
 use Rattle.model.specs.declared.Ball.{Ball}
-use Rattle.model.specs.declared.Balls.{Balls}
 use Rattle.model.specs.declared.Head.{Head}
 use Rattle.model.specs.declared.Term.{Term}
 use Rattle.model.proofs.Verdicts.{every-holds}
 use Rattle.model.proofs.Degree.{IsDegree, degree-is-least}
 use Rattle.taylor.specs.Ratio.{Reaching}
+use Rattle.taylor.specs.Step.{rowLaidOut}
+use Rattle.taylor.specs.declared.step.Numbers.{Numbers}
 use Rattle.taylor.proofs.Ratios as ratios
 use Rattle.taylor.proofs.Answers.{too-large, too-long, intolerable, moved, greatest-within, in-bounds}
 use Rattle.taylor.proofs.step.take_step.Statement.{statement}
@@ -50,6 +52,10 @@ at-ratio c = c .before .before
 -- the degree and the tail, from the new row
 abbrev at-cut : tie.After-row-of → tie.After-truncate
 at-cut c = c .before .before .before .before .before .before
+
+-- the new row, from question 6
+abbrev at-row : tie.After-tolerable → tie.After-row-of
+at-row c = c .before .before .before .before
 
 -- the start, from the ratio
 abbrev start-of-ratio : tie.After-ratio → tie.Start
@@ -96,8 +102,8 @@ module _ (terms : List Term) (head : Head) (balls : List Ball) (len : length bal
   row-is-step = rw (hd, ht, r, g, len)
 
   -- .. as the code holds it too ..
-  laid-out-is-step : {row : Balls} → row ≡ laidOut (newRow terms (head .step) balls d tail .balls) → row ≡ laidOut (stepRow terms (head .step) (head .tail) balls .balls)
-  laid-out-is-step e = e ∙ ap (λ (row : Row). laidOut (row .balls)) row-is-step
+  laid-out-is-step : {row : Numbers} → row ≡ rowLaidOut (newRow terms (head .step) balls d tail) → row ≡ rowLaidOut (stepRow terms (head .step) (head .tail) balls)
+  laid-out-is-step e = e ∙ ap rowLaidOut row-is-step
 
   -- .. and has this degree
   degree-is-step : d ≡ stepRow terms (head .step) (head .tail) balls .degree
@@ -107,7 +113,7 @@ module _ (terms : List Term) (head : Head) (balls : List Ball) (len : length bal
 -- the new row
 row-is : (c : tie.After-row-of) →
     let at-start = start-of-cut (at-cut c) in
-    c .row-of .result ≡ laidOut (stepRow (listed (at-start .args .terms)) (at-start .args .head .step) (at-start .args .head .tail) (balls at-start) .balls)
+    c .row-of .result ≡ rowLaidOut (stepRow (listed (at-start .args .terms)) (at-start .args .head .step) (at-start .args .head .tail) (balls at-start))
 row-is c =
     let cut = at-cut c in
     let at-start = start-of-cut cut in
@@ -125,29 +131,31 @@ degree-is c =
 
 returns : tie.Need-returns
 returns c =
-    let at-start = c .before .before .before .before .before in
-    (too-large (listed (at-start .args .terms)) (at-start .args .head) (at-start .args .t4) (sym (c .before .small .ensures) ∙ not-true _ (c .if1 .taken)), at-start .pre .1 .1)
+    let asked = c .before .before in
+    let at-start = asked .before .before .before .before in
+    (c .stopped .ensures ∙ too-large (listed (at-start .args .terms)) (at-start .args .head) (at-start .args .t4) (sym (asked .small .ensures) ∙ not-true _ (c .before .if1 .taken)), at-start .pre .1 .1)
 
 returns-2 : tie.Need-returns-2
 unfolding most-ratio
 returns-2 c =
-    let q = c .before in
+    let q = c .before .before in
     let at-start = start-of-ratio q in
-    (too-long (listed (at-start .args .terms)) (at-start .args .head) (at-start .args .t4) (fits (yes-4 (at-reach q))) (q .ratio .result) (ratio-is q) (c .if2 .taken), at-start .pre .1 .1)
+    (c .stopped2 .ensures ∙ too-long (listed (at-start .args .terms)) (at-start .args .head) (at-start .args .t4) (fits (yes-4 (at-reach q))) (q .ratio .result) (ratio-is q) (c .before .if2 .taken), at-start .pre .1 .1)
 
 returns-3 : tie.Need-returns-3
 unfolding most-ratio
 returns-3 c =
-    let row = c .before .before .before .before in
+    let asked = c .before .before in
+    let row = at-row asked in
     let cut = at-cut row in
     let q = at-ratio cut in
     let at-start = start-of-cut cut in
-    (intolerable (listed (at-start .args .terms)) (at-start .args .head) (at-start .args .t4) (fits (yes-4 (at-reach q))) (q .ratio .result) (ratio-is q) (cut .before .if2 .left) (row .row-of .result) (row-is row) (sym (c .before .tolerable .ensures) ∙ not-true _ (c .if3 .taken)), row .row-of .ensures .1)
+    (c .stopped3 .ensures ∙ intolerable (listed (at-start .args .terms)) (at-start .args .head) (at-start .args .t4) (fits (yes-4 (at-reach q))) (q .ratio .result) (ratio-is q) (cut .before .if2 .left) (row .row-of .result) (row-is row) (sym (asked .tolerable .ensures) ∙ not-true _ (c .before .if3 .taken)), row .row-of .ensures .1)
 
 returns-4 : tie.Need-returns-4
 unfolding most-ratio
 returns-4 c =
-    let row = c .before .before .before .before in
+    let row = at-row (c .before) in
     let cut = at-cut row in
     let q = at-ratio cut in
     let at-start = start-of-cut cut in
@@ -206,19 +214,31 @@ row-of-requires c κs =
     }
 
 tolerable-requires : tie.Need-tolerable-requires
-tolerable-requires c κs = start-of-cut (at-cut (c .before .before)) .pre .0 .room
+tolerable-requires c κs = start-of-cut (at-cut (c .before .before .before)) .pre .0 .room
+
+stopped-requires : tie.Need-stopped-requires
+stopped-requires c κs = search needs
+
+stopped-requires-2 : tie.Need-stopped-requires-2
+stopped-requires-2 c κs = search needs
+
+stopped-requires-3 : tie.Need-stopped-requires-3
+stopped-requires-3 c κs = search needs
 
 pub take-step-spec : {M : Type 1} → statement M
 take-step-spec =
     tie.close
     (tie.spec
     small-requires
+    stopped-requires
     returns
     largest-reach-requires
     ratio-requires
+    stopped-requires-2
     returns-2
     truncate-requires
     row-of-requires
     tolerable-requires
+    stopped-requires-3
     returns-3
     returns-4)

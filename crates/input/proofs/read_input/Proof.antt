@@ -1,16 +1,29 @@
--- `planner::read_input` meets its contract: it ends, and reads no further than the buffer. Assumes nothing.
+-- `input::read_input` meets its contract: it ends, and reads no further than the buffer. Assumes nothing.
 use Prim.Native.Nat.{_-_, _≤_}
 use mathlib.Core.Path.{_≡_}
 use lib.ListN.{length}
 use borrow.Author.Needs.{needs}
-use Rattle.planner.proofs.read_input.Statement.{statement}
-use Rattle.planner.proofs.read_input.Tie as tie
+use Rattle.input.specs.Counted.{counted}
+use Rattle.input.proofs.read_input.Statement.{statement}
+use Rattle.input.proofs.read_input.Tie as tie
 
 abbrev Inv-loop : tie.InvT-loop
-Inv-loop sheet₀ count₀ sheet count = (count ≤ length sheet) × (length sheet ≡ length sheet₀)
+Inv-loop bytes₀ count₀ bytes count = (count ≤ length bytes) × (length bytes ≡ length bytes₀)
 
 abbrev μ-loop : tie.MeasureT-loop
-μ-loop sheet₀ count₀ sheet count = length sheet - count
+μ-loop bytes₀ count₀ bytes count = length bytes - count
+
+returns : tie.Need-returns Inv-loop μ-loop
+unfolding counted
+returns c = search needs
+
+returns-2 : tie.Need-returns-2 Inv-loop μ-loop
+unfolding counted
+returns-2 c = search needs
+
+returns-3 : tie.Need-returns-3 Inv-loop μ-loop
+unfolding counted
+returns-3 c = search needs
 
 loop-holds : tie.Need-loop-holds Inv-loop μ-loop
 loop-holds c = search needs
@@ -29,9 +42,6 @@ read-requires c κs = search needs
 
 same-length : tie.Need-same-length Inv-loop μ-loop
 same-length c = search needs
-
-returns : tie.Need-returns Inv-loop μ-loop
-returns c = search needs
 
 sub-count : tie.Need-sub-count Inv-loop μ-loop
 sub-count c = search needs
@@ -57,14 +67,8 @@ loop-again c = search needs
 same-length-2 : tie.Need-same-length-2 Inv-loop μ-loop
 same-length-2 c = search needs
 
-returns-2 : tie.Need-returns-2 Inv-loop μ-loop
-returns-2 c = search needs
-
 same-length-3 : tie.Need-same-length-3 Inv-loop μ-loop
 same-length-3 c = search needs
-
-returns-3 : tie.Need-returns-3 Inv-loop μ-loop
-returns-3 c = search needs
 
 pub read-input-spec : {M : Type 1} → statement M
 read-input-spec =

@@ -1,0 +1,12 @@
+-- `conversion::with_steps` meets its contract. Assumes nothing.
+use borrow.Author.Needs.{needs}
+use Rattle.model.specs.Conversion.{withSteps}
+use Rattle.conversion.proofs.with_steps.Statement.{statement}
+use Rattle.conversion.proofs.with_steps.Tie as tie
+
+returns : tie.Need-returns
+unfolding withSteps
+returns c = search needs
+
+pub with-steps-spec : {M : Type 1} → statement M
+with-steps-spec = tie.close (tie.spec returns)

@@ -1,0 +1,200 @@
+// Document 02, the conversion of stored sheets: a sheet of more steps than a passage may have comes out as two, the second of
+// which starts from the last row of the first.
+ghost use Prim.Native.Nat.{ℕ, _≤_, _<_};
+ghost use mathlib.Core.List.{List, map};
+ghost use mathlib.Core.Path.{_≡_};
+ghost use lib.ListN.{length, take};
+ghost use Rattle.model.specs.Sheet.{most-bytes, most-quantities, most-steps, stored-steps, passes, sheetVerdictTo, quantitiesHeld};
+ghost use Rattle.model.specs.Passage.{passage};
+ghost use Rattle.model.specs.Rows.{rowIn, ballsOf, written};
+ghost use Rattle.model.specs.Conversion as model;
+ghost use Rattle.rows.specs.Room.{HasRow};
+ghost use Rattle.answer.specs.Answered.{FrontOf};
+ghost use Rattle.decimal.specs.Pieces.{Put, Printed};
+ghost use Rattle.conversion.specs.Converted.{convertedLent, splitLent, TrustedSplit, SpannedSplit, ConvertedText, ConvertedWith, ConvertsAlike};
+use answer::SHEET_LENGTH;
+use answer::front;
+use decimal::put_front;
+use model::Balls;
+use model::Head;
+use model::MOST_BYTES;
+use model::MOST_QUANTITIES;
+use model::MOST_STEPS;
+use model::Outcome;
+use model::Quantity;
+use model::Refusal;
+use model::Sheet;
+use model::Start;
+use passage::run;
+use rows::ROWS_LENGTH;
+use rows::radius_at;
+use rows::value_at;
+use sheet::no_quantity;
+use sheet::read_stored;
+use sheet_text::put_sheet;
+use taylor::small;
+use text::put_outcome;
+
+// Bytes for the text of every conversion. c/planner.h has the same, and the test command compares them.
+pub const CONVERTED_LENGTH: usize = MOST_BYTES;
+
+// The same with so many steps.
+fn with_steps(head: Head, steps: usize) -> Head
+    ensures { λ r. ⌜ r ≡ model.withSteps steps head ⌝ }
+{
+    Head {
+        n: head.n,
+        steps,
+        step: head.step,
+        tail: head.tail,
+        tol: head.tol,
+    }
+}
+
+// The first steps of a sheet, as many as a passage may have.
+fn first_part(sheet: Sheet) -> Sheet
+    ensures { λ r. ⌜ r ≡ model.firstPart most-steps sheet ⌝ }
+{
+    let head = with_steps(sheet.head, MOST_STEPS);
+    let quantities = sheet.quantities;
+    let terms = sheet.terms;
+    Sheet {
+        head,
+        quantities,
+        terms,
+    }
+}
+
+// The values and radii of a row, the rows counted from 0.
+fn balls_of(n: usize, rows: &[i64], row: usize) -> Balls
+    requires { ⌜ HasRow n row (now rows) ⌝ }
+    ensures { λ r. ⌜ ballsOf n r ≡ rowIn n (now (rows .entry)) row .balls ⌝ }
+{
+    let mut values = [0i64; MOST_QUANTITIES];
+    let mut radii = [0u64; MOST_QUANTITIES];
+    let mut i = 0;
+    while i < n {
+        values[i] = value_at(rows, n, row, i);
+        radii[i] = radius_at(rows, n, row, i);
+        i += 1;
+    }
+    Balls { values, radii }
+}
+
+// Quantities that start from values and radii.
+fn starting_from(n: usize, balls: Balls) -> [Quantity; MOST_QUANTITIES]
+    requires { ⌜ n ≤ most-quantities ⌝ }
+    ensures { λ r. ⌜ r ≡ quantitiesHeld (map model.startingFrom (ballsOf n balls)) ⌝ }
+{
+    let none = no_quantity();
+    let mut quantities = [none; MOST_QUANTITIES];
+    let mut i = 0;
+    while i < n {
+        let value = balls.values[i];
+        let radius = balls.radii[i];
+        quantities[i] = Quantity {
+            start: Start::Reading(value),
+            radius,
+        };
+        i += 1;
+    }
+    quantities
+}
+
+// The steps that are left, from these values and radii.
+fn second_part(sheet: Sheet, balls: Balls) -> Sheet
+    requires { ⌜ sheet .head .n ≤ most-quantities ⌝ }
+    requires { ⌜ most-steps < sheet .head .steps ⌝ }
+    ensures { λ r. ⌜ r ≡ model.secondPart most-steps sheet (ballsOf (sheet .head .n) balls) ⌝ }
+{
+    let head = with_steps(sheet.head, sheet.head.steps - MOST_STEPS);
+    let quantities = starting_from(head.n, balls);
+    let terms = sheet.terms;
+    Sheet {
+        head,
+        quantities,
+        terms,
+    }
+}
+
+// The two sheets with an empty line between them, or refusal 6 where the second cannot start from these values and radii.
+fn put_parts(text: &mut [u8], sheet: Sheet, balls: Balls) -> usize
+    requires { ⌜ sheetVerdictTo stored-steps sheet ≡ passes ⌝ }
+    requires { ⌜ most-steps < sheet .head .steps ⌝ }
+    ensures put { λ r. ⌜ Put (now (text .entry)) 0 (model.partsText sheet (ballsOf (sheet .head .n) balls)) r (now (text .exit)) ⌝ }
+    ensures bounded { λ r. ⌜ r ≤ most-bytes ⌝ }
+{
+    if !small(sheet.head.n, &balls.values, &balls.radii) {
+        let step = MOST_STEPS + 1;
+        return put_outcome(text, 0, Outcome::Refused(Refusal::TooLarge, step));
+    }
+    let first = put_sheet(text, 0, first_part(sheet));
+    let parted = put_front(text, first, b"\n");
+    put_sheet(text, parted, second_part(sheet, balls))
+}
+
+// A sheet of more steps than a passage may have: runs its first part into `rows`, and prints the two parts or the refusal.
+fn split(sheet: Sheet, rows: &mut [i64], text: &mut [u8]) -> usize
+    requires { ⌜ sheetVerdictTo stored-steps sheet ≡ passes ⌝ }
+    requires { ⌜ most-steps < sheet .head .steps ⌝ }
+    ensures put { λ r. ⌜ Put (now (text .entry)) 0 (model.splitText sheet (passage (model.firstPart most-steps sheet) (length (now (rows .entry))))) r (now (text .exit)) ⌝ }
+    ensures written { λ _. ⌜ now (rows .exit) ≡ written (passage (model.firstPart most-steps sheet) (length (now (rows .entry))) .rows) (now (rows .entry)) ⌝ }
+    ensures bounded { λ r. ⌜ r ≤ most-bytes ⌝ }
+{
+    let outcome = run(first_part(sheet), rows);
+    if let Outcome::Refused(_, _) = outcome {
+        return put_outcome(text, 0, outcome);
+    }
+    let balls = balls_of(sheet.head.n, rows, MOST_STEPS - 1);
+    put_parts(text, sheet, balls)
+}
+
+// Converts a stored sheet into `text`: as it is where it has no more steps than a passage may have, and otherwise in two parts,
+// by way of the rows of the first. Gives the length of the whole, of which `text` holds as much as fits.
+#[no_mangle]
+pub extern "C" fn planner_convert(sheet: &[u8], rows: &mut [i64], text: &mut [u8]) -> usize
+    ensures printed { λ r. ⌜ Printed (now (text .entry)) (convertedLent (now (sheet .entry)) (length (now (rows .entry)))) r (now (text .exit)) ⌝ }
+    ensures written { λ _. ⌜ now (rows .exit) ≡ written (splitLent (now (sheet .entry)) (length (now (rows .entry))) .rows) (now (rows .entry)) ⌝ }
+    ensures bounded { λ r. ⌜ r ≤ most-bytes ⌝ }
+    ensures trusted { λ _. ⌜ TrustedSplit (now (sheet .entry)) (length (now (rows .entry))) (now (rows .exit)) ⌝ }
+    ensures spanned { λ _. ⌜ SpannedSplit (now (sheet .entry)) (length (now (rows .entry))) (now (rows .exit)) ⌝ }
+    ensures comes_out { λ r. ⌜ ConvertedWith (length (now (rows .entry))) (now (sheet .entry)) (now (text .entry)) r (now (text .exit)) ⌝ }
+{
+    let reading = read_stored(sheet);
+    let outcome = reading.outcome;
+    if let Outcome::Refused(_, _) = outcome {
+        return put_outcome(text, 0, outcome);
+    }
+    let read_as = reading.sheet;
+    if read_as.head.steps <= MOST_STEPS {
+        return put_front(text, 0, sheet);
+    }
+    split(read_as, rows, text)
+}
+
+// Converts a stored sheet into `text`, by way of rows of its own, which suffice for every sheet. The text has room for the
+// longest conversion, and no more.
+fn convert_sheet(sheet: &[u8], text: &mut [u8]) -> usize
+    requires { ⌜ length (now text) ≡ most-bytes ⌝ }
+    ensures printed { λ r. ⌜ Printed (now (text .entry)) (model.converted (now (sheet .entry))) r (now (text .exit)) ⌝ }
+    ensures bounded { λ r. ⌜ r ≤ most-bytes ⌝ }
+    ensures comes_out { λ r. ⌜ ConvertedText (now (sheet .entry)) (now (text .entry)) r (now (text .exit)) ⌝ }
+{
+    let mut rows = [0i64; ROWS_LENGTH];
+    planner_convert(sheet, &mut rows, text)
+}
+
+// Prints what an input of any length comes out as, of which the first `count` bytes of `sheet` were read: all that it has, or
+// as many as there is room for. The text has room for every conversion.
+pub fn convert_input(
+    sheet: &[u8; SHEET_LENGTH],
+    count: usize,
+    text: &mut [u8; CONVERTED_LENGTH],
+) -> usize
+    ensures printed { λ r. ⌜ Printed (now (text .entry)) (model.converted (take count (now (sheet .entry)))) r (now (text .exit)) ⌝ }
+    ensures whole { λ r. ⌜ r ≤ length (now (text .exit)) ⌝ }
+    ensures comes_out { λ r. ⌜ ConvertedText (take count (now (sheet .entry))) (now (text .entry)) r (now (text .exit)) ⌝ }
+    ensures of_input { λ _. ⌜ ((input : List ℕ) → FrontOf (length (now (sheet .entry))) input (take count (now (sheet .entry))) → ConvertsAlike input (take count (now (sheet .entry)))) ⌝ }
+{
+    convert_sheet(front(sheet, count), text)
+}

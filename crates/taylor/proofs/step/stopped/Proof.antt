@@ -1,0 +1,14 @@
+-- `taylor::step::stopped` meets its contract. Assumes nothing.
+use mathlib.Core.Path.{refl}
+use Rattle.model.specs.Sheet.{padded}
+use Rattle.model.specs.Rows.{spansLaidOut, no-spans}
+use Rattle.taylor.specs.Step.{answered}
+use Rattle.taylor.proofs.step.stopped.Statement.{statement}
+use Rattle.taylor.proofs.step.stopped.Tie as tie
+
+returns : tie.Need-returns
+unfolding answered no-spans spansLaidOut padded
+returns c = refl
+
+pub stopped-spec : {M : Type 1} → statement M
+stopped-spec = tie.close (tie.spec returns)
