@@ -4,12 +4,14 @@
 use std::{env, fs, path::Path};
 
 const HEADER: &str = "../c/planner.h";
-const SIZES: [&str; 6] = [
+const SIZES: [&str; 8] = [
     "SHEET_LENGTH",
     "ROWS_LENGTH",
     "TEXT_LENGTH",
+    "CONVERTED_LENGTH",
     "MOST_QUANTITIES",
     "MOST_STEPS",
+    "STORED_STEPS",
     "SCALE",
 ];
 

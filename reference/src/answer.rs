@@ -55,14 +55,20 @@ pub fn text(summary: &Summary, rows: &[i64]) -> String {
     let mut text = String::with_capacity(32 + 18 * rows.len());
     let mut print = || {
         for (row, number) in rows.chunks_exact(width).zip(1..) {
-            let (degree, values, radii) = rows::parts(row);
-            writeln!(text, "row={number}\ndegree={degree}")?;
-            for (value, radius) in values.iter().zip(radii) {
-                writeln!(text, "value={value}\nradius={radius}")?;
+            let parts = rows::parts(row);
+            writeln!(text, "row={number}\ndegree={}", parts.degree)?;
+            for i in 0..parts.values.len() {
+                writeln!(text, "value={}\nradius={}", parts.values[i], parts.radii[i])?;
+                writeln!(text, "low={}\nhigh={}", parts.lows[i], parts.highs[i])?;
             }
         }
-        writeln!(text, "result={}\nat={}", summary.result, summary.at)
+        write!(text, "{}", ending(summary.result, summary.at))
     };
     print().expect("writing to a string does not fail");
     text
+}
+
+/// The two lines that end an answer, and that a refused conversion is.
+pub fn ending(result: u64, at: u64) -> String {
+    format!("result={result}\nat={at}\n")
 }

@@ -2,16 +2,16 @@
 //! a row, each of which is certain to clear a need.
 
 use crate::rounding::SCALE;
-use crate::rows;
+use crate::rows::{self, Parts};
 use crate::sheet::{LIMIT, MOST_QUANTITIES, Refusal};
 use std::ops::RangeInclusive;
 
 /// How many rows may be looked through.
-pub const COUNT: RangeInclusive<usize> = 0..=400;
+pub const COUNT: RangeInclusive<usize> = 0..=240;
 pub const WEIGHT: RangeInclusive<i64> = -(1 << 26)..=1 << 26;
 pub const BASE: RangeInclusive<i64> = -LIMIT..=LIMIT;
 pub const NEED: RangeInclusive<i64> = -LIMIT..=LIMIT;
-pub const RUN: RangeInclusive<usize> = 1..=400;
+pub const RUN: RangeInclusive<usize> = 1..=240;
 /// A value and a radius of a row that is looked through, whoever wrote it.
 pub const ROW_VALUE: RangeInclusive<i64> = -(1 << 31)..=1 << 31;
 pub const ROW_RADIUS: RangeInclusive<i64> = 0..=1 << 31;
@@ -89,9 +89,9 @@ fn is_in_range(n: usize, query: &Query) -> bool {
         && RUN.contains(&query.run)
 }
 
-/// Whether the values and radii of a row are in their ranges; its degree may be any number.
+/// Whether the values and radii of a row are in their ranges; its degree, lows and highs may be any numbers.
 fn row_is_in_range(row: &[i64]) -> bool {
-    let (_, values, radii) = rows::parts(row);
+    let Parts { values, radii, .. } = rows::parts(row);
     values.iter().all(|value| ROW_VALUE.contains(value))
         && radii.iter().all(|radius| ROW_RADIUS.contains(radius))
 }
@@ -103,7 +103,7 @@ pub fn is_certain(query: &Query, row: &[i64]) -> bool {
 
 /// base × s + the sum of weight × value - the sum of |weight| × radius.
 pub fn least_clearance(query: &Query, row: &[i64]) -> i128 {
-    let (_, values, radii) = rows::parts(row);
+    let Parts { values, radii, .. } = rows::parts(row);
     let mut clearance = i128::from(query.base) * i128::from(SCALE);
     for ((&weight, &value), &radius) in query.weights.iter().zip(values).zip(radii) {
         let weight = i128::from(weight);

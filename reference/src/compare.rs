@@ -1,13 +1,16 @@
 //! The proved planner beside this program, in one process: the same sheet and equal buffers to both,
 //! then every byte of the text, of a shorter text too, every place of the buffer and the summary
-//! compared; the same rows and query to both, then the answers compared.
+//! compared; the same stored sheet, and the conversions compared likewise; the same rows and query to
+//! both, then the answers compared.
 
 use crate::answer::{self, Summary};
 use crate::clearance::{COUNT, FirstClear};
+use crate::convert::{self, Conversion};
 use crate::generate::Trial;
 use crate::queries::QueryTrial;
 use crate::rounding::SCALE;
-use crate::sheet::{MOST_BYTES, MOST_PLACES, MOST_QUANTITIES};
+use crate::sheet::{MOST_BYTES, MOST_PLACES, MOST_QUANTITIES, STEPS, STORED_STEPS};
+use crate::stored::StoredTrial;
 use std::collections::BTreeMap;
 
 /// Whether the proved planner is linked (see build.rs).
@@ -32,6 +35,18 @@ pub struct Lent {
     pub held: Vec<u8>,
 }
 
+impl Lent {
+    /// A text in a buffer of so many bytes, which is filled with `mark` before.
+    fn of(text: &[u8], bytes: usize, mark: i64) -> Self {
+        let mut held = vec![byte_mark(mark); bytes];
+        for (place, &byte) in held.iter_mut().zip(text) {
+            *place = byte;
+        }
+        let length = text.len();
+        Lent { length, held }
+    }
+}
+
 /// The bytes to lend for a text of such a length: fewer than it has, as a rule, or a few more.
 fn lent_bytes(trial: &Trial, length: usize) -> usize {
     trial.places % (length + 32)
@@ -48,27 +63,28 @@ pub fn reference(trial: &Trial, mark: i64) -> Outcome {
     let summary = answer::run(&trial.sheet, &mut rows);
     let text = answer::text(&summary, &rows).into_bytes();
     let rows_without_text = rows.clone();
-    let length = text.len();
-    let mut held = vec![byte_mark(mark); lent_bytes(trial, length)];
-    for (place, &byte) in held.iter_mut().zip(&text) {
-        *place = byte;
-    }
+    let lent = Lent::of(&text, lent_bytes(trial, text.len()), mark);
     Outcome {
         text,
         rows,
         summary,
         rows_without_text,
-        lent: Lent { length, held },
+        lent,
     }
 }
 
 /// The bytes that suffice for every answer, by c/planner.h (see build.rs).
 pub const MOST_TEXT: usize = header(env!("PLANNER_TEXT_LENGTH"));
 
+/// The bytes that suffice for every conversion.
+pub const MOST_CONVERTED: usize = header(env!("PLANNER_CONVERTED_LENGTH"));
+
 const _: () = assert!(header(env!("PLANNER_SHEET_LENGTH")) == MOST_BYTES + 1);
 const _: () = assert!(header(env!("PLANNER_ROWS_LENGTH")) == MOST_PLACES);
 const _: () = assert!(header(env!("PLANNER_MOST_QUANTITIES")) == MOST_QUANTITIES);
 const _: () = assert!(header(env!("PLANNER_MOST_STEPS")) == *COUNT.end());
+const _: () = assert!(header(env!("PLANNER_MOST_STEPS")) == *STEPS.end() as usize);
+const _: () = assert!(header(env!("PLANNER_STORED_STEPS")) == *STORED_STEPS.end() as usize);
 const _: () = assert!(header(env!("PLANNER_SCALE")) == SCALE as usize);
 
 const fn header(number: &str) -> usize {
@@ -97,6 +113,15 @@ mod c {
             rows_length: usize,
             summary: *mut [u64; 4],
         );
+
+        pub fn planner_convert(
+            sheet: *const u8,
+            sheet_length: usize,
+            rows: *mut i64,
+            rows_length: usize,
+            text: *mut u8,
+            text_length: usize,
+        ) -> usize;
 
         pub fn planner_first_clear(
             n: usize,
@@ -160,6 +185,28 @@ pub fn planner_run(sheet: &[u8], rows: &mut [i64]) -> Option<Summary> {
 
 #[cfg(not(planner_linked))]
 pub fn planner_run(_sheet: &[u8], _rows: &mut [i64]) -> Option<Summary> {
+    None
+}
+
+/// The proved planner's conversion of a stored sheet, the rows of its first part and its text into the
+/// buffers lent: the text's length. Where the planner is not linked, there is none.
+#[cfg(planner_linked)]
+pub fn planner_convert(sheet: &[u8], rows: &mut [i64], text: &mut [u8]) -> Option<usize> {
+    // SAFETY: each pointer is that of a live slice of the length beside it, and no two overlap.
+    Some(unsafe {
+        c::planner_convert(
+            sheet.as_ptr(),
+            sheet.len(),
+            rows.as_mut_ptr(),
+            rows.len(),
+            text.as_mut_ptr(),
+            text.len(),
+        )
+    })
+}
+
+#[cfg(not(planner_linked))]
+pub fn planner_convert(_sheet: &[u8], _rows: &mut [i64], _text: &mut [u8]) -> Option<usize> {
     None
 }
 
@@ -266,6 +313,88 @@ pub fn both(trial: &Trial, mark: i64) -> Result<Outcome, Box<[Outcome; 2]>> {
     match proved(trial, mark) {
         Some(theirs) if theirs != ours => Err(Box::new([ours, theirs])),
         _ => Ok(ours),
+    }
+}
+
+/// What one program made of a stored sheet, in a text buffer that suffices and in another one.
+#[derive(Clone, Debug, PartialEq, Eq)]
+pub struct Converted {
+    pub roomy: Lent,
+    pub rows: Vec<i64>,
+    pub lent: Lent,
+    /// The rows of the call with the other buffer.
+    pub rows_again: Vec<i64>,
+}
+
+impl Converted {
+    pub fn text(&self) -> &[u8] {
+        &self.roomy.held[..self.roomy.length.min(MOST_CONVERTED)]
+    }
+}
+
+/// What this program makes of a stored sheet, its buffers filled with `mark` before.
+fn reference_converted(trial: &StoredTrial, mark: i64) -> (Conversion, Converted) {
+    let mut rows = vec![mark; trial.places];
+    let conversion = convert::convert(&trial.sheet, &mut rows);
+    let text = convert::printed(&trial.sheet, &conversion);
+    let converted = Converted {
+        roomy: Lent::of(&text, MOST_CONVERTED, mark),
+        rows: rows.clone(),
+        lent: Lent::of(&text, trial.bytes(text.len()), mark),
+        rows_again: rows,
+    };
+    (conversion, converted)
+}
+
+/// What the proved planner makes of it; none where it is not linked.
+fn proved_converted(trial: &StoredTrial, mark: i64) -> Option<Converted> {
+    let call = |bytes: usize| {
+        let mut rows = vec![mark; trial.places];
+        let mut held = vec![byte_mark(mark); bytes];
+        let length = planner_convert(&trial.sheet, &mut rows, &mut held)?;
+        Some((Lent { length, held }, rows))
+    };
+    let (roomy, rows) = call(MOST_CONVERTED)?;
+    let (lent, rows_again) = call(trial.bytes(roomy.length))?;
+    Some(Converted {
+        roomy,
+        rows,
+        lent,
+        rows_again,
+    })
+}
+
+/// Converts a stored sheet with both programs. `Err` where the proved planner is linked and differs.
+pub fn both_converted(
+    trial: &StoredTrial,
+    mark: i64,
+) -> Result<(Conversion, Converted), Box<[Converted; 2]>> {
+    let (conversion, ours) = reference_converted(trial, mark);
+    match proved_converted(trial, mark) {
+        Some(theirs) if theirs != ours => Err(Box::new([ours, theirs])),
+        _ => Ok((conversion, ours)),
+    }
+}
+
+/// How many stored sheets became what.
+#[derive(Clone, Debug, Default, PartialEq, Eq)]
+pub struct ConversionTally {
+    pub split: usize,
+    pub unaltered: usize,
+    /// By the refusal's number.
+    pub refused: BTreeMap<usize, usize>,
+}
+
+impl ConversionTally {
+    pub fn count(&mut self, conversion: &Conversion) {
+        let kind = match conversion {
+            Conversion::Split(_) => &mut self.split,
+            Conversion::Unaltered => &mut self.unaltered,
+            Conversion::Refused(refused) => {
+                self.refused.entry(refused.refusal as usize).or_default()
+            }
+        };
+        *kind += 1;
     }
 }
 

@@ -1,9 +1,9 @@
 //! A long search from a seed: sheets that ended in a way not seen before are kept and altered again.
 
 use crate::compare::Ending;
-use crate::generate::{Trial, Trials, damage, text};
+use crate::generate::{Trial, Trials, damage};
 use crate::random::Random;
-use crate::sheet::{Sheet, read};
+use crate::sheet::{Sheet, read, text};
 use std::collections::HashSet;
 
 /// Trials that go on from whatever brought something to light.

@@ -7,10 +7,9 @@ use crate::rounding::SCALE_SIZE;
 use crate::rows;
 use crate::sheet::{
     COEF, LIMIT, MOST_BYTES, QUANTITIES, RADIUS, START, STEP_LENGTH, STEPS, Sheet, Start, TAIL,
-    TERMS, TOL, Term, read,
+    TERMS, TOL, Term, read, text,
 };
 use crate::step::{MOST_RATIO, ratio};
-use std::fmt::Write;
 
 /// A sheet, and the places of the buffer lent for its rows.
 #[derive(Clone, Debug, PartialEq, Eq)]
@@ -59,33 +58,8 @@ impl Iterator for Trials {
     }
 }
 
-/// A sheet as text.
-pub fn text(sheet: &Sheet) -> Vec<u8> {
-    let mut text = String::new();
-    let mut print = || {
-        writeln!(text, "n={}\nsteps={}", sheet.starts.len(), sheet.steps)?;
-        writeln!(text, "step={}\ntail={}", sheet.step, sheet.tail)?;
-        writeln!(text, "tol={}", sheet.tol)?;
-        for start in &sheet.starts {
-            match start.value {
-                Some(value) => writeln!(text, "start={value}")?,
-                None => writeln!(text, "start=none")?,
-            }
-            writeln!(text, "radius={}", start.radius)?;
-        }
-        writeln!(text, "terms={}", sheet.terms.len())?;
-        for term in &sheet.terms {
-            writeln!(text, "to={}\ncoef={}", term.to, term.coef)?;
-            writeln!(text, "first={}\nsecond={}", term.first, term.second)?;
-        }
-        Ok::<(), std::fmt::Error>(())
-    };
-    print().expect("writing to a string does not fail");
-    text.into_bytes()
-}
-
 /// Every field over its whole range.
-fn anywhere(random: &mut Random) -> Sheet {
+pub fn anywhere(random: &mut Random) -> Sheet {
     let n = random.spread(QUANTITIES);
     let starts = (0..n).map(|_| Start {
         value: Some(random.spread(START)),
@@ -109,7 +83,7 @@ fn anywhere(random: &mut Random) -> Sheet {
 }
 
 /// Forward or back, one as often as the other: a step of length 1.
-fn direction(random: &mut Random) -> i64 {
+pub fn direction(random: &mut Random) -> i64 {
     random.of(&[-1, 1])
 }
 
@@ -138,7 +112,7 @@ pub fn calm(random: &mut Random) -> Sheet {
 
 /// A calm sheet whose starts reach to ±`reach` and whose terms have the first `factors` quantities as
 /// factors.
-fn calm_of(random: &mut Random, n: i64, factors: i64, reach: i64) -> Sheet {
+pub fn calm_of(random: &mut Random, n: i64, factors: i64, reach: i64) -> Sheet {
     let widest = random.of(&[0, 1, 1 << 8, 1 << 16, reach / 8]);
     let starts = (0..n).map(|_| Start {
         value: Some(random.even(-reach..=reach)),
@@ -152,7 +126,7 @@ fn calm_of(random: &mut Random, n: i64, factors: i64, reach: i64) -> Sheet {
         term(random, n, factors, coef)
     });
     let terms = terms.collect();
-    let most_steps = random.of(&[2, 6, 6, 6, 40, 400]);
+    let most_steps = random.of(&[2, 6, 6, 6, 40, 240]);
     let mut sheet = Sheet {
         steps: random.even(1..=most_steps),
         step: direction(random),
@@ -167,7 +141,7 @@ fn calm_of(random: &mut Random, n: i64, factors: i64, reach: i64) -> Sheet {
 }
 
 /// The largest |value| + radius of the start, at least 1 whole: G of the first step.
-fn scale(sheet: &Sheet) -> u64 {
+pub fn scale(sheet: &Sheet) -> u64 {
     let sizes = sheet.starts.iter().map(|start| {
         let value = start.value.unwrap_or(0);
         value.unsigned_abs() + start.radius.unsigned_abs()
@@ -177,7 +151,7 @@ fn scale(sheet: &Sheet) -> u64 {
 
 /// The longest step whose ratio at the scale is at most `wanted`, in the direction of the sheet's own;
 /// one of length 1 where there is none.
-fn longest_step(sheet: &Sheet, scale: u64, wanted: u64) -> i64 {
+pub fn longest_step(sheet: &Sheet, scale: u64, wanted: u64) -> i64 {
     longest_step_that(sheet, |trial| ratio(trial, scale) <= wanted)
 }
 
@@ -203,7 +177,7 @@ pub fn longest_step_that(sheet: &Sheet, fits: impl Fn(&Sheet) -> bool) -> i64 {
 }
 
 /// The longest step that question 5 lets pass, or one unit longer.
-fn at_the_ratio(random: &mut Random) -> Sheet {
+pub fn at_the_ratio(random: &mut Random) -> Sheet {
     let mut sheet = calm(random);
     if random.once_in(2) {
         // Powers of two bring the ratio to exactly one half, and one whole to one unit over it.
@@ -225,17 +199,17 @@ fn at_the_tolerance(random: &mut Random) -> Sheet {
     let rows = written(&sheet);
     if !rows.is_empty() {
         let upto = 1 + random.below(rows.len());
-        let radii = rows[..upto].iter().flat_map(|row| rows::parts(row).2);
+        let radii = rows[..upto].iter().flat_map(|row| rows::parts(row).radii);
         let widest = radii.copied().fold(0, i64::max);
         sheet.tol = (widest - random.even(0..=1)).clamp(1, LIMIT);
     }
     sheet
 }
 
-/// The rows that a sheet's passage writes.
+/// The rows that a sheet's passage writes, however many steps it has.
 pub fn written(sheet: &Sheet) -> Vec<Vec<i64>> {
     let mut rows = vec![0; sheet.places()];
-    let count = match passage::run(sheet, &mut rows) {
+    let count = match passage::carry(sheet, &mut rows) {
         Ok(()) => sheet.steps as usize,
         Err(refused) => refused.at.saturating_sub(1),
     };
@@ -244,7 +218,7 @@ pub fn written(sheet: &Sheet) -> Vec<Vec<i64>> {
 }
 
 /// A quantity whose |value| + radius is at the limit, or one unit beyond it, before step 1.
-fn at_the_limit_from_the_start(random: &mut Random) -> Sheet {
+pub fn at_the_limit_from_the_start(random: &mut Random) -> Sheet {
     let mut sheet = calm(random);
     let which = random.below(sheet.starts.len());
     let radius = random.spread(RADIUS);
@@ -478,7 +452,7 @@ fn swap_lines(random: &mut Random, text: &mut Vec<u8>) {
 }
 
 /// Brings the text to the most bytes that a sheet may have, or to one more, or beyond.
-fn lengthen(random: &mut Random, text: &mut Vec<u8>) {
+pub fn lengthen(random: &mut Random, text: &mut Vec<u8>) {
     let length = MOST_BYTES + random.of(&[0, 0, 0, 1, 1, 1, 2, 1000]);
     let filling = random.of(b"\n0n");
     let anywhere = random.below(text.len() + 1);
@@ -491,7 +465,7 @@ fn lengthen(random: &mut Random, text: &mut Vec<u8>) {
 /// every second time, since few of a long sheet's lines are the head's.
 fn respell_number(random: &mut Random, text: &mut Vec<u8>) {
     const HEAD_LINES: usize = 5;
-    const SPELLINGS: &str = "0 1 2 7 8 9 32 33 400 401 16777216 16777217 268435456 268435457 \
+    const SPELLINGS: &str = "0 1 2 7 8 9 32 33 240 241 16777216 16777217 268435456 268435457 \
         536870912 536870913 999999999 1000000000 4294967297 18446744073709551617 \
         -0 -1 -2 -16777216 -16777217 -268435456 -268435457 -536870912 -536870913 \
         -999999999 -1000000000 007 00 -07 +1 1.0 1e3 none";

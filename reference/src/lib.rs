@@ -1,10 +1,11 @@
 //! Document 01 with its changes, implemented again from the documents alone: read a sheet, run a passage
-//! into a lent buffer, print the answer; find the first clear run in rows. The proved planner is compared with
-//! it, byte for byte.
+//! into a lent buffer, print the answer; convert a stored sheet; find the first clear run in rows. The proved
+//! planner is compared with it, byte for byte.
 
 pub mod answer;
 pub mod clearance;
 pub mod compare;
+pub mod convert;
 pub mod cost;
 pub mod explore;
 pub mod generate;
@@ -16,4 +17,5 @@ pub mod rounding;
 pub mod rows;
 pub mod sheet;
 pub mod step;
+pub mod stored;
 pub mod timing;

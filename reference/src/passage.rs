@@ -1,6 +1,5 @@
 //! A passage: step after step from the start, each row into a lent buffer.
 
-use crate::rows;
 use crate::sheet::{MOST_QUANTITIES, Refusal, Sheet};
 use crate::step::{State, Steps};
 
@@ -18,6 +17,11 @@ pub fn run(sheet: &Sheet, rows: &mut [i64]) -> Result<(), Refused> {
     if rows.len() < sheet.places() {
         return Err(before(Refusal::BufferTooShort));
     }
+    carry(sheet, rows)
+}
+
+/// Takes the steps of a sheet that is read, however many it has, each row into `rows`, which have places for all.
+pub fn carry(sheet: &Sheet, rows: &mut [i64]) -> Result<(), Refused> {
     let n = sheet.starts.len();
     let steps = Steps::of(sheet);
     let mut state = start(sheet);
@@ -25,13 +29,10 @@ pub fn run(sheet: &Sheet, rows: &mut [i64]) -> Result<(), Refused> {
     for (at, place) in (1..=sheet.steps as usize).zip(places) {
         let row = steps.advance(&state);
         let row = row.map_err(|refusal| Refused { refusal, at })?;
-        state = row.state;
-        let (degree, values, radii) = rows::parts_mut(place);
-        *degree = row.degree as i64;
-        values.copy_from_slice(&state.values[..n]);
-        for (place, &radius) in radii.iter_mut().zip(&state.radii) {
-            *place = radius as i64;
+        for (place, number) in place.iter_mut().zip(row.numbers(n)) {
+            *place = number;
         }
+        state = row.state;
     }
     Ok(())
 }

@@ -121,7 +121,7 @@ fn random_weights(random: &mut Random, n: usize) -> [i64; MOST_QUANTITIES] {
 /// risen and a later row may be the first certain one.
 fn turn_to_rise(weights: &mut [i64], rows: &[Vec<i64>]) {
     if let (Some(first), Some(last)) = (rows.first(), rows.last()) {
-        let (values, ended) = (rows::parts(first).1, rows::parts(last).1);
+        let (values, ended) = (rows::parts(first).values, rows::parts(last).values);
         for ((weight, value), end) in weights.iter_mut().zip(values).zip(ended) {
             *weight = weight.abs() * (end - value).signum();
         }
@@ -210,7 +210,7 @@ fn to_measure(random: &mut Random) -> QueryTrial {
     weights[one] = random.of(&[-1, 1]);
     let units = random.even(-32..=32);
     let (base, need) = apart(random, units);
-    let long = random.of(&[10, 100, 400]);
+    let long = random.of(&[10, 100, 240]);
     let run = random.even(1..=long) as usize;
     let run = random.of(&[1, 2, 3, 4, run]);
     let query = Query {
@@ -267,7 +267,13 @@ fn small_row(random: &mut Random, n: usize) -> Vec<i64> {
     let mut row = vec![random.even(0..=28)];
     row.extend((0..n).map(|_| random.even(-MOST..=MOST)));
     row.extend((0..n).map(|_| random.even(0..=MOST)));
+    row.extend(lows_and_highs(random, n));
     row
+}
+
+/// The lows and the highs of a row, which a search does not look at: any numbers.
+fn lows_and_highs(random: &mut Random, n: usize) -> Vec<i64> {
+    (0..2 * n).map(|_| any_number(random)).collect()
 }
 
 /// Every number over its whole range.
@@ -314,6 +320,7 @@ fn some_rows(
         let mut row = vec![any_number(random)];
         row.extend((0..n).map(|_| choose(random, ROW_VALUE)));
         row.extend((0..n).map(|_| choose(random, ROW_RADIUS)));
+        row.extend(lows_and_highs(random, n));
         row
     };
     (0..count).map(row).collect()
@@ -329,12 +336,12 @@ fn alter(random: &mut Random, trial: &mut QueryTrial) {
         0 => *n = random.of(&[0, 9, 9, 10, usize::MAX, 1 << 63, (1 << 32) + 1]),
         1 => {
             *count = random.of(&[
-                401,
-                401,
-                402,
+                241,
+                241,
+                242,
                 (1 << 32) + 1,
                 usize::MAX,
-                usize::MAX / 17 + 1,
+                usize::MAX / 33 + 1,
             ])
         }
         2 | 3 => shorten(random, trial),
@@ -342,7 +349,7 @@ fn alter(random: &mut Random, trial: &mut QueryTrial) {
         5 => query.weights[0] = about_an_end(random, WEIGHT),
         6 => query.base = about_an_end(random, BASE),
         7 => query.need = about_an_end(random, NEED),
-        8 => query.run = random.of(&[0, 0, 400, 401, 401, (1 << 32) + 1, usize::MAX]),
+        8 => query.run = random.of(&[0, 0, 240, 241, 241, (1 << 32) + 1, usize::MAX]),
         9 | 10 => alter_row(random, trial, |random, n| {
             (1 + random.below(n), about_an_end(random, ROW_VALUE))
         }),

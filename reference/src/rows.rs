@@ -1,20 +1,29 @@
-//! A row in the lent buffer: its degree, n values, n radii.
+//! A row in the lent buffer: its degree, n values, n radii, n lows, n highs.
 
 /// The places that a row of n quantities takes.
 pub const fn width(n: usize) -> usize {
-    2 * n + 1
+    4 * n + 1
 }
 
-/// A row's degree, values and radii.
-pub fn parts(row: &[i64]) -> (i64, &[i64], &[i64]) {
-    let (values, radii) = row[1..].split_at(row.len() / 2);
-    (row[0], values, radii)
+/// What a row holds: its degree, and of each quantity a value, a radius, a low and a high.
+#[derive(Clone, Copy, Debug, PartialEq, Eq)]
+pub struct Parts<'a> {
+    pub degree: i64,
+    pub values: &'a [i64],
+    pub radii: &'a [i64],
+    pub lows: &'a [i64],
+    pub highs: &'a [i64],
 }
 
-/// The same, to be written.
-pub fn parts_mut(row: &mut [i64]) -> (&mut i64, &mut [i64], &mut [i64]) {
-    let n = row.len() / 2;
-    let (degree, rest) = row.split_first_mut().expect("a row has a degree");
-    let (values, radii) = rest.split_at_mut(n);
-    (degree, values, radii)
+/// The parts of a row.
+pub fn parts(row: &[i64]) -> Parts<'_> {
+    let n = row.len() / 4;
+    let part = |number: usize| &row[1 + number * n..][..n];
+    Parts {
+        degree: row[0],
+        values: part(0),
+        radii: part(1),
+        lows: part(2),
+        highs: part(3),
+    }
 }

@@ -1,6 +1,7 @@
 //! The sheet: its fields, their ranges, and reading it line by line.
 
 use crate::rows;
+use std::fmt::Write;
 use std::ops::RangeInclusive;
 
 /// The most bytes a sheet may have.
@@ -13,7 +14,9 @@ pub const MOST_QUANTITIES: usize = 8;
 pub const LIMIT: i64 = 1 << 29;
 
 pub const QUANTITIES: RangeInclusive<i64> = 1..=MOST_QUANTITIES as i64;
-pub const STEPS: RangeInclusive<i64> = 1..=400;
+pub const STEPS: RangeInclusive<i64> = 1..=240;
+/// The steps of a stored sheet, which the conversion still reads.
+pub const STORED_STEPS: RangeInclusive<i64> = 1..=400;
 /// A step's length, |H|: it goes forward, or with a minus back.
 pub const STEP_LENGTH: RangeInclusive<i64> = 1..=1 << 24;
 pub const TAIL: RangeInclusive<i64> = 2..=1 << 24;
@@ -105,12 +108,21 @@ impl Sheet {
 
 /// Reads a sheet; the first fault from the top decides the refusal.
 pub fn read(sheet: &[u8]) -> Result<Sheet, Refusal> {
+    read_with(sheet, STEPS)
+}
+
+/// Reads a stored sheet, which may have more steps.
+pub fn read_stored(sheet: &[u8]) -> Result<Sheet, Refusal> {
+    read_with(sheet, STORED_STEPS)
+}
+
+fn read_with(sheet: &[u8], steps_range: RangeInclusive<i64>) -> Result<Sheet, Refusal> {
     if sheet.len() > MOST_BYTES {
         return Err(Refusal::TooLong);
     }
     let mut lines = Lines { rest: sheet };
     let n = lines.plain("n", QUANTITIES)?;
-    let steps = lines.plain("steps", STEPS)?;
+    let steps = lines.plain("steps", steps_range)?;
     let step = step_within(signed_number(lines.value("step")?)?)?;
     let tail = lines.plain("tail", TAIL)?;
     let tol = lines.plain("tol", TOL)?;
@@ -145,6 +157,31 @@ pub fn read(sheet: &[u8]) -> Result<Sheet, Refusal> {
         starts,
         terms,
     })
+}
+
+/// A sheet as text.
+pub fn text(sheet: &Sheet) -> Vec<u8> {
+    let mut text = String::new();
+    let mut print = || {
+        writeln!(text, "n={}\nsteps={}", sheet.starts.len(), sheet.steps)?;
+        writeln!(text, "step={}\ntail={}", sheet.step, sheet.tail)?;
+        writeln!(text, "tol={}", sheet.tol)?;
+        for start in &sheet.starts {
+            match start.value {
+                Some(value) => writeln!(text, "start={value}")?,
+                None => writeln!(text, "start=none")?,
+            }
+            writeln!(text, "radius={}", start.radius)?;
+        }
+        writeln!(text, "terms={}", sheet.terms.len())?;
+        for term in &sheet.terms {
+            writeln!(text, "to={}\ncoef={}", term.to, term.coef)?;
+            writeln!(text, "first={}\nsecond={}", term.first, term.second)?;
+        }
+        Ok::<(), std::fmt::Error>(())
+    };
+    print().expect("writing to a string does not fail");
+    text.into_bytes()
 }
 
 /// Where `first` is 0, any `second` but 0 is out of range.

@@ -17,11 +17,25 @@ pub struct State {
     pub radii: [u64; MOST_QUANTITIES],
 }
 
-/// What a step makes of a state.
+/// What a step makes of a state: the state at its end, and a low and a high for all of it.
 #[derive(Clone, Debug, PartialEq, Eq)]
 pub struct Row {
     pub degree: usize,
     pub state: State,
+    pub lows: [i64; MOST_QUANTITIES],
+    pub highs: [i64; MOST_QUANTITIES],
+}
+
+impl Row {
+    /// The numbers of a row of n quantities, in the order of the lent buffer.
+    pub fn numbers(&self, n: usize) -> impl Iterator<Item = i64> {
+        let degree = [self.degree as i64].into_iter();
+        let values = self.state.values[..n].iter().copied();
+        let radii = self.state.radii[..n].iter().map(|&radius| radius as i64);
+        let lows = self.lows[..n].iter().copied();
+        let highs = self.highs[..n].iter().copied();
+        degree.chain(values).chain(radii).chain(lows).chain(highs)
+    }
 }
 
 /// What the steps of a passage work with: the sheet's numbers, and its terms gathered.
@@ -52,14 +66,23 @@ impl<'a> Steps<'a> {
             return Err(Refusal::StepTooLong);
         }
         let (degree, tail) = degree_and_tail(scale, ratio, sheet.tail as u64);
-        let next = Coefficients::of(self, state, degree).sum(n, degree, tail);
+        let coefficients = Coefficients::of(self, state, degree);
+        let next = coefficients.sum(n, degree, tail);
         if next.radii[..n].iter().any(|&r| r > sheet.tol as u64) {
             return Err(Refusal::RadiusTooLarge);
         }
-        Ok(Row {
+        let mut row = Row {
             degree,
             state: next,
-        })
+            lows: [0; MOST_QUANTITIES],
+            highs: [0; MOST_QUANTITIES],
+        };
+        for i in 0..n {
+            let reach = coefficients.reach(i, degree, tail) as i64;
+            row.lows[i] = state.values[i] - reach;
+            row.highs[i] = state.values[i] + reach;
+        }
+        Ok(row)
     }
 
     /// The ratio q of a step from states of the common scale G.
@@ -172,6 +195,14 @@ impl Coefficients {
             next.radii[i] = self.e[i][..=degree].iter().sum::<u64>() + tail;
         }
         next
+    }
+
+    /// How far a quantity may come within the step from its value at the start: e_0, then |c_k| + e_k of each
+    /// order from 1 to the degree, then the tail.
+    fn reach(&self, quantity: usize, degree: usize, tail: u64) -> u64 {
+        let (c, e) = (&self.c[quantity], &self.e[quantity]);
+        let orders = (1..=degree).map(|k| c[k].unsigned_abs() + e[k]);
+        e[0] + orders.sum::<u64>() + tail
     }
 }
 

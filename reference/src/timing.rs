@@ -65,7 +65,8 @@ pub fn longest_searches() -> [QueryTrial; 2] {
     const RADIUS: i64 = SCALE / 1000;
     let n = MOST_QUANTITIES;
     let count = *COUNT.end();
-    let row = [vec![0], vec![VALUE; n], vec![RADIUS; n]].concat();
+    let parts = [VALUE, RADIUS, VALUE - RADIUS, VALUE + RADIUS];
+    let row = [vec![0], parts.map(|number| vec![number; n]).concat()].concat();
     let surely = n as i64 * (VALUE - RADIUS);
     [(surely + 1, 1), (surely, count)].map(|(need, run)| QueryTrial {
         n,

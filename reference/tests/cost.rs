@@ -2,9 +2,9 @@
 
 use reference::compare::reference;
 use reference::cost::{Variant, degrees, products, variants};
-use reference::generate::{Trial, text};
+use reference::generate::Trial;
 use reference::like_terms::gathered;
-use reference::sheet::{Sheet, read};
+use reference::sheet::{Sheet, read, text};
 
 fn largest() -> Sheet {
     read(include_bytes!("../benches/largest.sheet")).unwrap()
@@ -28,9 +28,9 @@ fn measures(variant: &Variant) -> [usize; 3] {
 
 #[test]
 fn one_thing_varies_at_a_time() {
-    let steps = [50, 100, 200, 400].map(|steps| [steps, 32, 28]);
-    let terms = [4, 8, 16, 32].map(|terms| [400, terms, 28]);
-    let degrees = [7, 14, 21, 28].map(|degree| [400, 32, degree]);
+    let steps = [30, 60, 120, 240].map(|steps| [steps, 32, 28]);
+    let terms = [4, 8, 16, 32].map(|terms| [240, terms, 28]);
+    let degrees = [7, 14, 21, 28].map(|degree| [240, 32, degree]);
     let expected = [steps, terms, degrees].concat();
     let variants = variants(&largest());
     assert_eq!(variants.iter().map(measures).collect::<Vec<_>>(), expected);

@@ -57,9 +57,12 @@ fn the_proved_planner_is_linked_where_its_library_is_named() {
     assert_eq!(LINKED, std::env::var_os("PLANNER_LIBRARY").is_some());
 }
 
-/// Rows of one quantity, each a value and a radius, of degree 7.
+/// Rows of one quantity, each a value and a radius, of degree 7, with what the radius leaves as low and high.
 fn rows_of(numbers: &[(i64, i64)]) -> Vec<i64> {
-    let rows = numbers.iter().map(|&(value, radius)| [7, value, radius]);
+    let rows = numbers.iter().map(|&(value, radius)| {
+        let (low, high) = (value.wrapping_sub(radius), value.wrapping_add(radius));
+        [7, value, radius, low, high]
+    });
     rows.flatten().collect()
 }
 
@@ -140,10 +143,10 @@ fn every_quantity_has_its_weight() {
         need,
         ..with_weights(&[2 * SCALE, -SCALE])
     };
-    let rows = [0, 100, 40, 6, 5];
+    let rows = [0, 100, 40, 6, 5, 94, 35, 106, 45];
     assert_eq!(first_clear(2, 1, &rows, &with(143)), Row(1));
     assert_eq!(first_clear(2, 1, &rows, &with(144)), NoRow);
-    let two_rows = [rows, [0, 100, 39, 6, 5]].concat();
+    let two_rows = [rows, [0, 100, 39, 6, 5, 94, 34, 106, 44]].concat();
     assert_eq!(first_clear(2, 2, &two_rows, &with(144)), Row(2));
 }
 
@@ -173,12 +176,12 @@ fn a_run_ends_with_the_last_row_at_the_latest() {
     assert_eq!(of_letters("nnyyy", 3), Row(3));
     assert_eq!(of_letters("nnyyy", 4), NoRow);
     assert_eq!(of_letters("yyy", 4), NoRow);
-    assert_eq!(of_letters("yyy", 400), NoRow);
-    assert_eq!(of_letters(&"y".repeat(400), 400), Row(1));
-    assert_eq!(of_letters(&"y".repeat(399), 400), NoRow);
-    let all_but_the_first = format!("n{}", "y".repeat(399));
-    assert_eq!(of_letters(&all_but_the_first, 399), Row(2));
-    assert_eq!(of_letters(&all_but_the_first, 400), NoRow);
+    assert_eq!(of_letters("yyy", 240), NoRow);
+    assert_eq!(of_letters(&"y".repeat(240), 240), Row(1));
+    assert_eq!(of_letters(&"y".repeat(239), 240), NoRow);
+    let all_but_the_first = format!("n{}", "y".repeat(239));
+    assert_eq!(of_letters(&all_but_the_first, 239), Row(2));
+    assert_eq!(of_letters(&all_but_the_first, 240), NoRow);
 }
 
 /// Only the counted rows are there: a run does not go on past them.
@@ -195,8 +198,8 @@ fn rows_past_the_count_are_not_there() {
 #[test]
 fn no_rows_give_none() {
     assert_eq!(first_clear(1, 0, &[], &AS_IT_IS), NoRow);
-    assert_eq!(first_clear(8, 0, &[], &with_run(400)), NoRow);
-    assert_eq!(first_clear(1, 0, &[i64::MAX; 3], &AS_IT_IS), NoRow);
+    assert_eq!(first_clear(8, 0, &[], &with_run(240)), NoRow);
+    assert_eq!(first_clear(1, 0, &[i64::MAX; 5], &AS_IT_IS), NoRow);
 }
 
 fn refused(refusal: Refusal) -> FirstClear {
@@ -205,12 +208,21 @@ fn refused(refusal: Refusal) -> FirstClear {
 
 #[test]
 fn quantities_and_count_out_of_range_are_3() {
-    let rows = vec![0; 400 * 17];
+    let rows = vec![0; 400 * 33];
     let asked = |n, count| first_clear(n, count, &rows, &AS_IT_IS);
-    assert_eq!(asked(1, 400), Row(1));
-    assert_eq!(asked(8, 400), Row(1));
+    assert_eq!(asked(1, 240), Row(1));
+    assert_eq!(asked(8, 240), Row(1));
     assert_eq!(asked(8, 0), NoRow);
-    for (n, count) in [(0, 1), (9, 1), (1, 401), (8, 401), (0, 0), (9, 0), (0, 401)] {
+    for (n, count) in [
+        (0, 1),
+        (9, 1),
+        (1, 241),
+        (8, 241),
+        (8, 400),
+        (0, 0),
+        (9, 0),
+        (0, 241),
+    ] {
         assert_eq!(asked(n, count), refused(OutOfRange), "{n} {count}");
     }
     for huge in [1 << 32, 1 << 62, 1 << 63, (1 << 63) + 1, usize::MAX] {
@@ -221,9 +233,9 @@ fn quantities_and_count_out_of_range_are_3() {
 
 #[test]
 fn too_few_places_are_5() {
-    let rows = vec![0; 400 * 17 + 1];
+    let rows = vec![0; 240 * 33 + 1];
     let asked = |n, count, places| first_clear(n, count, &rows[..places], &AS_IT_IS);
-    for (n, count, needed) in [(1, 1, 3), (1, 2, 6), (2, 1, 5), (8, 400, 6800)] {
+    for (n, count, needed) in [(1, 1, 5), (1, 2, 10), (2, 1, 9), (8, 240, 7920)] {
         assert_eq!(asked(n, count, needed), Row(1));
         assert_eq!(asked(n, count, needed + 1), Row(1));
         assert_eq!(asked(n, count, needed - 1), refused(BufferTooShort));
@@ -261,8 +273,8 @@ fn a_query_out_of_range_is_9() {
         assert_eq!(asked(with_need(need)), refused(QueryOutOfRange));
     }
     assert_eq!(asked(with_run(1)), Row(1));
-    assert_eq!(asked(with_run(400)), NoRow);
-    for run in [0, 401, 1 << 32, 1 << 63, usize::MAX] {
+    assert_eq!(asked(with_run(240)), NoRow);
+    for run in [0, 241, 400, 1 << 32, 1 << 63, usize::MAX] {
         assert_eq!(asked(with_run(run)), refused(QueryOutOfRange), "{run}");
     }
 }
@@ -271,7 +283,7 @@ fn a_query_out_of_range_is_9() {
 fn weights_past_the_quantities_are_not_looked_at() {
     for extreme in [i64::MIN, -MOST_WEIGHT - 1, MOST_WEIGHT + 1, i64::MAX] {
         for n in 1..=8 {
-            let rows = vec![0; 2 * n + 1];
+            let rows = vec![0; 4 * n + 1];
             let mut weights = [extreme; 8];
             weights[..n].fill(SCALE);
             assert_eq!(first_clear(n, 1, &rows, &with_weights(&weights)), Row(1));
@@ -312,36 +324,47 @@ fn every_counted_row_is_asked() {
     assert_eq!(last_row(MOST_VALUE + 1, 0), refused(RowOutOfRange));
     assert_eq!(last_row(9, -1), refused(RowOutOfRange));
     let weightless = with_weights(&[0, 0]);
-    let asked = |row: [i64; 5]| first_clear(2, 1, &row, &weightless);
-    assert_eq!(asked([0; 5]), Row(1));
+    let asked = |row: [i64; 9]| first_clear(2, 1, &row, &weightless);
+    assert_eq!(asked([0; 9]), Row(1));
     for place in 1..5 {
-        let mut row = [0; 5];
+        let mut row = [0; 9];
         row[place] = MOST_VALUE + 1;
         assert_eq!(asked(row), refused(RowOutOfRange), "{place}");
     }
 }
 
+/// Degrees, lows, highs and all places past the count.
 #[test]
-fn degrees_and_places_past_the_count_are_not_asked() {
+fn what_is_not_asked() {
     for number in [i64::MIN, -5, 29, MOST_VALUE + 1, i64::MAX] {
-        let rows = [number, 1, 1, number, number, number];
-        assert_eq!(first_clear(1, 1, &rows, &AS_IT_IS), Row(1), "{number}");
-        let rows = [number, 1, 1, number, 1, 1];
-        assert_eq!(first_clear(1, 2, &rows, &with_run(2)), Row(1), "{number}");
+        let row = [number, 1, 1, number, number];
+        let past = [number; 5];
+        assert_eq!(
+            first_clear(1, 1, &[row, past].concat(), &AS_IT_IS),
+            Row(1),
+            "{number}"
+        );
+        assert_eq!(
+            first_clear(1, 2, &[row, row].concat(), &with_run(2)),
+            Row(1),
+            "{number}"
+        );
+        let uncertain = [number, 0, 1, number, number];
+        assert_eq!(first_clear(1, 1, &uncertain, &AS_IT_IS), NoRow, "{number}");
     }
 }
 
 /// Everything is wrong at first; each question comes to decide as the ones before it are put right.
 #[test]
 fn the_refusals_come_in_their_order() {
-    let rows = [0, MOST_VALUE + 1, 0];
+    let rows = [0, MOST_VALUE + 1, 0, 0, 0];
     let run_0 = with_run(0);
     assert_eq!(first_clear(0, 1, &[], &run_0), refused(OutOfRange));
-    assert_eq!(first_clear(1, 401, &[], &run_0), refused(OutOfRange));
+    assert_eq!(first_clear(1, 241, &[], &run_0), refused(OutOfRange));
     assert_eq!(first_clear(1, 1, &[], &run_0), refused(BufferTooShort));
-    let two_places = &rows[..2];
+    let four_places = &rows[..4];
     assert_eq!(
-        first_clear(1, 1, two_places, &run_0),
+        first_clear(1, 1, four_places, &run_0),
         refused(BufferTooShort)
     );
     assert_eq!(first_clear(1, 1, &rows, &run_0), refused(QueryOutOfRange));
@@ -363,8 +386,8 @@ fn a_query_out_of_range_comes_before_no_rows() {
 
 #[test]
 fn the_answer_as_one_number() {
-    let numbers = [Row(1), Row(400), NoRow].map(FirstClear::number);
-    assert_eq!(numbers, [1, 400, 0]);
+    let numbers = [Row(1), Row(240), NoRow].map(FirstClear::number);
+    assert_eq!(numbers, [1, 240, 0]);
     let refusals = [OutOfRange, BufferTooShort, QueryOutOfRange, RowOutOfRange];
     let numbers = refusals.map(|refusal| refused(refusal).number());
     assert_eq!(numbers, [-3, -5, -9, -10]);
@@ -373,7 +396,7 @@ fn the_answer_as_one_number() {
 /// The largest sums there can be, both ways: nothing is lost in them.
 #[test]
 fn the_ends_of_all_ranges_together() {
-    let row = |value, radius| [&[0][..], &[value; 8], &[radius; 8]].concat();
+    let row = |value, radius| [&[0][..], &[value; 8], &[radius; 8], &[0; 16]].concat();
     let asked = |row: &[i64], weight, base, need| {
         let query = Query {
             base,

@@ -3,12 +3,12 @@
 //! which neither program may follow, gives another answer to many.
 
 use reference::compare::both;
-use reference::generate::{Trial, of_like_terms, text};
+use reference::generate::{Trial, of_like_terms};
 use reference::like_terms::{alike, gathered};
 use reference::passage::start;
 use reference::random::Random;
-use reference::rows;
-use reference::sheet::{COEF, Refusal, Sheet, Start, Term};
+use reference::rows::{self, Parts};
+use reference::sheet::{COEF, Refusal, Sheet, Start, Term, text};
 use reference::step::{Row, State, Steps, advance};
 
 const COUNT: usize = 10_000;
@@ -71,11 +71,7 @@ impl Run {
 
 /// A row as it stands in the buffer.
 fn numbers(sheet: &Sheet, row: &Row) -> Vec<i64> {
-    let n = sheet.starts.len();
-    let mut numbers = vec![row.degree as i64];
-    numbers.extend(&row.state.values[..n]);
-    numbers.extend(row.state.radii[..n].iter().map(|&radius| radius as i64));
-    numbers
+    row.numbers(sheet.starts.len()).collect()
 }
 
 /// How many sheets of one direction had each thing.
@@ -209,7 +205,7 @@ fn like_terms_are_gathered_by_both_programs() {
 
 /// The sheet of a single step from a row.
 fn single_step(sheet: &Sheet, row: &[i64]) -> Sheet {
-    let (_, values, radii) = rows::parts(row);
+    let Parts { values, radii, .. } = rows::parts(row);
     let starts = values.iter().zip(radii).map(|(&value, &radius)| Start {
         value: Some(value),
         radius,
@@ -223,7 +219,7 @@ fn single_step(sheet: &Sheet, row: &[i64]) -> Sheet {
 
 /// The state that a row has.
 fn state(row: &[i64]) -> State {
-    let (_, values, radii) = rows::parts(row);
+    let Parts { values, radii, .. } = rows::parts(row);
     let mut state = State {
         values: [0; 8],
         radii: [0; 8],

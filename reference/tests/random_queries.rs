@@ -4,7 +4,7 @@ use reference::clearance::{FirstClear, NEED, ROW_VALUE, WEIGHT, first_clear, lea
 use reference::compare::ClearTally;
 use reference::queries::{QueryTrial, QueryTrials};
 use reference::rounding::SCALE;
-use reference::rows;
+use reference::rows::{self, Parts};
 use reference::sheet::Refusal;
 use std::collections::BTreeMap;
 
@@ -44,8 +44,8 @@ impl Edges {
         self.count("n 9", is_3 && n == 9);
         self.count("n huge", is_3 && n > 1 << 32);
         self.count("count 0", answer == FirstClear::NoRow && count == 0);
-        self.count("count 400", !is_3 && count == 400);
-        self.count("count 401", is_3 && count == 401);
+        self.count("count 240", !is_3 && count == 240);
+        self.count("count 241", is_3 && count == 241);
         self.count("count huge", is_3 && count >= 1 << 32);
         if !is_3 {
             let needed = count * rows::width(n);
@@ -83,8 +83,8 @@ impl Edges {
         self.count("need above", is_9 && query.need == NEED_END + 1);
         self.count("run 0", is_9 && query.run == 0);
         self.count("run 1", passed && query.run == 1);
-        self.count("run 400", passed && query.run == 400);
-        self.count("run 401", is_9 && query.run == 401);
+        self.count("run 240", passed && query.run == 240);
+        self.count("run 241", is_9 && query.run == 241);
         self.count("run huge", is_9 && query.run >= 1 << 32);
     }
 
@@ -127,8 +127,9 @@ impl Edges {
         }
         let (counted, past) = trial.rows.split_at(count * rows::width(n));
         let counted: Vec<&[i64]> = counted.chunks_exact(rows::width(n)).collect();
-        let value = |end| counted.iter().any(|row| rows::parts(row).1.contains(&end));
-        let radius = |end| counted.iter().any(|row| rows::parts(row).2.contains(&end));
+        let any = |holds: &dyn Fn(Parts) -> bool| counted.iter().any(|row| holds(rows::parts(row)));
+        let value = |end| any(&|row| row.values.contains(&end));
+        let radius = |end| any(&|row| row.radii.contains(&end));
         self.count("value at its low end", passed && value(-VALUE_END));
         self.count("value at its high end", passed && value(VALUE_END));
         self.count("value below", is_10 && value(-VALUE_END - 1));
@@ -141,6 +142,11 @@ impl Edges {
         self.count("radius of 64 bits", is_10 && radius(i64::MIN));
         let degree = |row: &&[i64]| !(-VALUE_END..=VALUE_END).contains(&row[0]);
         self.count("any degree", passed && counted.iter().any(degree));
+        let beyond = |numbers: &[i64]| numbers.iter().any(|number| !ROW_VALUE.contains(number));
+        self.count("any low", passed && any(&|row| beyond(row.lows)));
+        self.count("any high", passed && any(&|row| beyond(row.highs)));
+        let crossed = |row: Parts| row.lows.iter().zip(row.highs).any(|(low, high)| low > high);
+        self.count("a low above its high", passed && any(&crossed));
         let junk = past.iter().any(|place| !ROW_VALUE.contains(place));
         self.count("any number past the count", passed && junk);
         if let Some(bad) = counted.iter().position(|row| !in_range(row)) {
@@ -207,7 +213,7 @@ fn passed(answer: FirstClear) -> bool {
 }
 
 fn in_range(row: &[i64]) -> bool {
-    let (_, values, radii) = rows::parts(row);
+    let Parts { values, radii, .. } = rows::parts(row);
     let value = |value: &i64| (-VALUE_END..=VALUE_END).contains(value);
     let radius = |radius: &i64| (0..=VALUE_END).contains(radius);
     values.iter().all(value) && radii.iter().all(radius)

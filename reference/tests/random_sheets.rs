@@ -2,10 +2,11 @@
 //! forecasts and by hindcasts.
 
 use reference::compare::{Outcome, Tally, reference};
-use reference::generate::{Trial, Trials, text};
+use reference::generate::{Trial, Trials, written};
 use reference::passage::{run, start};
 use reference::rounding::SCALE_SIZE;
-use reference::sheet::{LIMIT, MOST_BYTES, Refusal, Sheet, read};
+use reference::rows;
+use reference::sheet::{LIMIT, MOST_BYTES, Refusal, Sheet, read, text};
 use reference::step::{MOST_RATIO, State, advance, ratio};
 use std::collections::HashMap;
 
@@ -190,18 +191,51 @@ fn turned_round(sheet: &Sheet) -> Sheet {
 }
 
 /// Every size takes the step's length, and `near` does the same on both sides of 0: the first step back
-/// has the degree and the radii, or the refusal, of the first step forward.
+/// has the degree, the radii, the lows and the highs, or the refusal, of the first step forward.
 #[test]
-fn a_first_step_has_the_same_degree_and_radii_forward_and_back() {
+fn a_first_step_is_as_wide_forward_and_back() {
     let first_step = |sheet: &Sheet| {
         let row = advance(sheet, &start(sheet))?;
-        Ok::<_, Refusal>((row.degree, row.state.radii))
+        Ok::<_, Refusal>((row.degree, row.state.radii, row.lows, row.highs))
     };
     let sheets = Trials::from_seed(4).take(5000);
     for sheet in sheets.filter_map(|trial| read(&trial.sheet).ok()) {
         let turned = turned_round(&sheet);
         assert_eq!(first_step(&sheet), first_step(&turned), "{sheet:?}");
     }
+}
+
+/// Low and high lie equally far from the value that the step starts from. Between them lie both its ends, with
+/// their radii; and no number of a row has more than 2^31 units.
+#[test]
+fn both_ends_of_a_step_lie_between_low_and_high() {
+    const MOST: i64 = 1 << 31;
+    let mut steps = 0;
+    for trial in Trials::from_seed(6).take(5000) {
+        let Ok(sheet) = read(&trial.sheet) else {
+            continue;
+        };
+        let before = start(&sheet);
+        let n = sheet.starts.len();
+        let mut values = before.values[..n].to_vec();
+        let mut radii: Vec<i64> = before.radii[..n].iter().map(|&r| r as i64).collect();
+        for row in written(&sheet) {
+            let row = rows::parts(&row);
+            for i in 0..n {
+                let (low, high) = (row.lows[i], row.highs[i]);
+                assert_eq!(high - values[i], values[i] - low);
+                for (value, radius) in [(values[i], radii[i]), (row.values[i], row.radii[i])] {
+                    assert!(low <= value - radius && value + radius <= high);
+                }
+                assert!(-MOST <= low && high <= MOST);
+            }
+            values = row.values.to_vec();
+            radii = row.radii.to_vec();
+            steps += 1;
+        }
+    }
+    println!("{steps} steps");
+    assert!(steps >= 5000);
 }
 
 /// Going back along some rates is going forward along the opposite ones.

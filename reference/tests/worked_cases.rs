@@ -1,5 +1,5 @@
-//! Document 01's worked cases A to J and the ones it only runs, hindcasts, and like terms. (Case I stands beside
-//! the roundings.)
+//! Document 01's worked cases A to J and the ones it only runs, hindcasts, like terms, and the lows and highs of
+//! each. (Case I stands beside the roundings.)
 
 use reference::answer::answer;
 use reference::passage::{Refused, run};
@@ -24,8 +24,16 @@ fn answer_of(sheet: &str) -> String {
 }
 
 /// The answer of one row for one quantity.
-fn one_row(degree: u32, value: i64, radius: i64) -> String {
-    format!("row=1\ndegree={degree}\nvalue={value}\nradius={radius}\nresult=0\nat=0\n")
+fn one_row(degree: u32, value: i64, radius: i64, [low, high]: [i64; 2]) -> String {
+    format!(
+        "row=1\ndegree={degree}\nvalue={value}\nradius={radius}\nlow={low}\nhigh={high}\nresult=0\nat=0\n"
+    )
+}
+
+/// The answer of case A's sheet. Its reach is 5,592,414: |c_1| and |c_2| are 4,194,304 and 1,048,576, and the errors
+/// and the tail are the radius, 349,534, for the start has none.
+fn answer_a() -> String {
+    one_row(2, 22020096, 349534, [11184802, 22369630])
 }
 
 fn refused(result: u8, at: usize) -> String {
@@ -34,13 +42,16 @@ fn refused(result: u8, at: usize) -> String {
 
 #[test]
 fn case_a() {
-    assert_eq!(answer_of(CASE_A), one_row(2, 22020096, 349534));
+    assert_eq!(answer_of(CASE_A), answer_a());
 }
 
 #[test]
 fn case_b() {
     let sheet = edited(&[("tail=349526", "tail=349525"), ("tol=349534", "tol=87393")]);
-    assert_eq!(answer_of(&sheet), one_row(3, 22282240, 87393));
+    // |c_3| is 262,144.
+    let reach = 4194304 + 1048576 + 262144 + 87393;
+    let between = [16777216 - reach, 16777216 + reach];
+    assert_eq!(answer_of(&sheet), one_row(3, 22282240, 87393, between));
 }
 
 #[test]
@@ -67,13 +78,14 @@ fn case_e() {
         ("tail=349526", "tail=2"),
         ("tol=349534", "tol=49"),
     ]);
-    assert_eq!(answer_of(&sheet), one_row(23, 8388608, 49));
+    let between = [-8388608 - 49, 8388608 + 49];
+    assert_eq!(answer_of(&sheet), one_row(23, 8388608, 49, between));
 }
 
 #[test]
 fn case_f() {
     let no_terms = "n=1\nsteps=1\nstep=5\ntail=2\ntol=7\nstart=-9\nradius=7\nterms=0\n";
-    assert_eq!(answer_of(no_terms), one_row(0, -9, 7));
+    assert_eq!(answer_of(no_terms), one_row(0, -9, 7, [-16, -2]));
     let radius_over_tol = no_terms.replace("tol=7", "tol=6");
     assert_eq!(answer_of(&radius_over_tol), refused(8, 1));
     let too_large = no_terms.replace("start=-9", "start=-536870906");
@@ -83,7 +95,7 @@ fn case_f() {
 #[test]
 fn case_g() {
     let sheet = "n=1\nsteps=1\nstep=1\ntail=2\ntol=1\nstart=536870912\nradius=0\nterms=0\n";
-    assert_eq!(answer_of(sheet), one_row(0, 536870912, 0));
+    assert_eq!(answer_of(sheet), one_row(0, 536870912, 0, [536870912; 2]));
     let beyond = sheet.replace("radius=0", "radius=1");
     assert_eq!(answer_of(&beyond), refused(6, 1));
 }
@@ -104,17 +116,18 @@ fn case_h() {
 fn case_j() {
     let two_steps = edited(&[("steps=1", "steps=2"), ("tol=349534", "tol=536870912")]);
     let sheet = read(two_steps.as_bytes()).unwrap();
-    assert_eq!(run(&sheet, &mut [MARK; 6]), Ok(()));
-    let mut short = [MARK; 5];
+    assert_eq!(run(&sheet, &mut [MARK; 10]), Ok(()));
+    let mut short = [MARK; 9];
     let refusal = Refusal::BufferTooShort;
     assert_eq!(run(&sheet, &mut short), Err(Refused { refusal, at: 0 }));
-    assert_eq!(short, [MARK; 5]);
+    assert_eq!(short, [MARK; 9]);
 }
 
 #[test]
 fn case_a_as_a_hindcast() {
     let sheet = edited(&[("step=4194304", "step=-4194304")]);
-    assert_eq!(answer_of(&sheet), one_row(2, 13631488, 349534));
+    let between = [11184802, 22369630];
+    assert_eq!(answer_of(&sheet), one_row(2, 13631488, 349534, between));
 }
 
 #[test]
@@ -139,7 +152,8 @@ fn a_step_may_have_a_minus() {
         assert_eq!(step(a_whole), refused(7, 1), "{a_whole}");
     }
     for a_unit in ["-1", "1"] {
-        assert_eq!(step(a_unit), one_row(0, 16777216, 2), "{a_unit}");
+        let between = [16777214, 16777218];
+        assert_eq!(step(a_unit), one_row(0, 16777216, 2, between), "{a_unit}");
     }
 }
 
@@ -156,14 +170,57 @@ fn a_step_in_numbers_has_the_same_range() {
     let refusal = Refusal::OutOfRange;
     for step in [i64::MIN, -16777217, 0, 16777217, i64::MAX] {
         assert_eq!(with_step(step).check(), Err(refusal), "{step}");
-        let mut rows = [MARK; 3];
+        let mut rows = [MARK; 5];
         let refused = run(&with_step(step), &mut rows);
         assert_eq!(refused, Err(Refused { refusal, at: 0 }), "{step}");
-        assert_eq!(rows, [MARK; 3]);
+        assert_eq!(rows, [MARK; 5]);
     }
-    let mut rows = [MARK; 3];
+    let mut rows = [MARK; 5];
     assert_eq!(run(&with_step(-4194304), &mut rows), Ok(()));
-    assert_eq!(rows, [2, 13631488, 349534]);
+    assert_eq!(rows, [2, 13631488, 349534, 11184802, 22369630]);
+}
+
+/// 240 steps are the most, in numbers as in a sheet.
+#[test]
+fn steps_in_numbers_have_the_same_range() {
+    let still = "n=1\nsteps=240\nstep=1\ntail=2\ntol=1\nstart=5\nradius=0\nterms=0\n";
+    let sheet = read(still.as_bytes()).unwrap();
+    let mut rows = [MARK; MOST_PLACES];
+    assert_eq!(run(&sheet, &mut rows), Ok(()));
+    assert_eq!(rows[..1200], [0, 5, 0, 5, 5].repeat(240));
+    assert_eq!(rows[1200..], [MARK; MOST_PLACES - 1200]);
+    let refusal = Refusal::OutOfRange;
+    for steps in [i64::MIN, 0, 241, 400, i64::MAX] {
+        let sheet = Sheet {
+            steps,
+            ..sheet.clone()
+        };
+        let mut rows = [MARK; MOST_PLACES];
+        let refused = run(&sheet, &mut rows);
+        assert_eq!(refused, Err(Refused { refusal, at: 0 }), "{steps}");
+        assert_eq!(rows, [MARK; MOST_PLACES]);
+    }
+}
+
+/// A row's lows stand after its radii and its highs after its lows, each quantity's about its own value at the step's
+/// start: one quantity rises by a quarter at each of two steps, the other falls by it, and only |c_1| is not 0.
+#[test]
+fn lows_and_highs_are_about_the_steps_start() {
+    const QUARTER: i64 = 4194304;
+    let sheet = "n=2\nsteps=2\nstep=4194304\ntail=2\ntol=536870912\nstart=50331\nradius=5\nstart=-671088\nradius=0\n\
+        terms=2\nto=1\ncoef=16777216\nfirst=0\nsecond=0\nto=2\ncoef=-16777216\nfirst=0\nsecond=0\n";
+    let mut rows = [MARK; 18];
+    answer(sheet.as_bytes(), &mut rows);
+    let mut before = [50331, -671088];
+    for row in rows.chunks(9) {
+        for (i, moved) in [QUARTER, -QUARTER].into_iter().enumerate() {
+            let [value, radius, low, high] = [1, 3, 5, 7].map(|part| row[part + i]);
+            let reach = QUARTER + radius;
+            assert_eq!(value, before[i] + moved);
+            assert_eq!([low, high], [before[i] - reach, before[i] + reach]);
+        }
+        before = [row[1], row[2]];
+    }
 }
 
 /// Case A's sheet with other terms: of each its coefficient and its factors.
@@ -185,7 +242,7 @@ fn like_terms_that_add_up_to_case_a_have_its_answer() {
         let terms: Vec<[i64; 3]> = coefs.iter().map(|&coef| [coef, 1, 1]).collect();
         answer_of(&with_terms(&terms))
     };
-    let answer = one_row(2, 22020096, 349534);
+    let answer = answer_a();
     assert_eq!(squares(&[16777216]), answer);
     assert_eq!(squares(&[268435456, -251658240]), answer);
     assert_eq!(squares(&[5, -5, 16777216]), answer);
@@ -199,7 +256,7 @@ fn like_terms_that_add_up_to_case_a_have_its_answer() {
 
 #[test]
 fn terms_that_cancel_wholly_have_degree_0() {
-    let start = one_row(0, 16777216, 0);
+    let start = one_row(0, 16777216, 0, [16777216; 2]);
     assert_eq!(answer_of(&with_terms(&[])), start);
     assert_eq!(answer_of(&with_terms(&[[0, 1, 1]])), start);
     for factors in [[0, 0], [1, 0], [1, 1]] {
@@ -235,6 +292,8 @@ fn cases_that_are_only_run() {
     let other = |old, new| answer_of(&edited(&[(old, new)]));
     assert_eq!(other("step=4194304", "step=007"), refused(2, 0));
     assert_eq!(other("steps=1", "steps=0"), refused(3, 0));
+    assert_eq!(other("steps=1", "steps=241"), refused(3, 0));
+    assert_eq!(other("steps=1", "steps=400"), refused(3, 0));
     assert_eq!(other("steps=1", "steps=401"), refused(3, 0));
     let misspelt_below = edited(&[("n=1", "n=9"), ("steps=1", "stops=1")]);
     assert_eq!(answer_of(&misspelt_below), refused(3, 0));
@@ -263,20 +322,21 @@ fn spelling_comes_before_range_on_a_line() {
 #[test]
 fn a_refused_passage_keeps_its_earlier_rows_and_every_other_place() {
     let sheet = edited(&[("steps=1", "steps=3")]);
-    let mut rows = [MARK; 12];
+    let mut rows = [MARK; 20];
+    let row = "row=1\ndegree=2\nvalue=22020096\nradius=349534\nlow=11184802\nhigh=22369630\n";
     assert_eq!(
         answer(sheet.as_bytes(), &mut rows),
-        "row=1\ndegree=2\nvalue=22020096\nradius=349534\nresult=8\nat=2\n"
+        format!("{row}result=8\nat=2\n")
     );
-    assert_eq!(rows[..3], [2, 22020096, 349534]);
-    assert_eq!(rows[3..], [MARK; 9]);
+    assert_eq!(rows[..5], [2, 22020096, 349534, 11184802, 22369630]);
+    assert_eq!(rows[5..], [MARK; 15]);
 }
 
-/// As much work as a sheet can ask for: 32 terms of two factors, 400 steps, each of degree 28.
+/// As much work as a sheet can ask for: 32 terms of two factors, 240 steps, each of degree 28.
 #[test]
 fn the_largest_sheet() {
     let text = answer_of(include_str!("../benches/largest.sheet"));
-    assert_eq!(text.matches("degree=28\n").count(), 400);
+    assert_eq!(text.matches("degree=28\n").count(), 240);
     assert!(text.ends_with(&refused(0, 0)));
 }
 
