@@ -30,13 +30,15 @@ def coefficients(state, terms, degree):
     return series, denominator
 
 
-def exact_sum(state, terms, step, degree):
-    """The exact degree-K sum of each quantity: the sum of Y_k / (k! D^(k+1) s^k) * (H/s)^k."""
+def exact_sum(state, terms, step, degree, fraction=Fraction(1)):
+    """The exact degree-K sum of each quantity at a fraction u/w of the step: the sum of
+    Y_k / (k! D^(k+1) s^k) * (u H / (w s))^k."""
     series, denominator = coefficients(state, terms, degree)
-    # All summands are brought to the denominator K! D^(K+1) s^(2K).
-    common = factorial(degree) * denominator ** (degree + 1) * SCALE ** (2 * degree)
+    moved, parts = fraction.numerator * step, fraction.denominator * SCALE * SCALE
+    # All summands are brought to the denominator K! D^(K+1) (s^2 w)^K.
+    common = factorial(degree) * denominator ** (degree + 1) * parts**degree
     weights = [
-        factorial(degree) // factorial(k) * (denominator * SCALE * SCALE) ** (degree - k) * step**k
+        factorial(degree) // factorial(k) * (denominator * parts) ** (degree - k) * moved**k
         for k in range(degree + 1)
     ]
     return [Fraction(sum(map(int.__mul__, numbers, weights)), common) for numbers in series]

@@ -8,6 +8,7 @@ usage: measure.py REFERENCE SEED COUNT      (REFERENCE is the second program's p
 import random
 import subprocess
 import sys
+from collections import namedtuple
 from fractions import Fraction
 from itertools import cycle
 from statistics import median
@@ -19,6 +20,8 @@ MOST_BITS = 40_000  # Exact states with longer denominators than this are not ca
 EXACT, EXACT_WIDE_TAIL = "start exact, tail 2 to 100", "start exact, tail 1,000 and up"
 INSIDE, ENDS = "start anywhere inside", "start at its ends"
 FORWARD, BACK = 1, -1
+
+Row = namedtuple("Row", "degree values radii lows highs")
 
 
 def random_passage(rng, direction):
@@ -81,8 +84,11 @@ def sheet_text(passage):
     return "\n".join(lines) + "\n"
 
 
+LISTS = {"value": "values", "radius": "radii", "low": "lows", "high": "highs"}
+
+
 def printed_rows(reference, passage):
-    """The rows of the answer: degree, values, radii."""
+    """The rows of the answer."""
     answer = subprocess.run(
         [reference], input=sheet_text(passage), capture_output=True, text=True, check=True
     ).stdout
@@ -90,11 +96,9 @@ def printed_rows(reference, passage):
     for line in answer.splitlines():
         key, number = line.split("=")
         if key == "degree":
-            rows.append((int(number), [], []))
-        elif key == "value":
-            rows[-1][1].append(int(number))
-        elif key == "radius":
-            rows[-1][2].append(int(number))
+            rows.append(Row(int(number), [], [], [], []))
+        elif key in LISTS:
+            getattr(rows[-1], LISTS[key]).append(int(number))
     return rows
 
 
@@ -159,13 +163,13 @@ def print_table(columns):
 def exact_states(rng, rows, passage, state):
     """Carries an exact state along the printed rows, at degrees no lower than theirs: each row's exact
     state, with its values and radii."""
-    for degree, values, radii in rows:
-        degree += rng.choice([0, 0, 1, 2, 5])
+    for row in rows:
+        degree = row.degree + rng.choice([0, 0, 1, 2, 5])
         bits = max(number.denominator.bit_length() for number in state) + SCALE.bit_length()
         if bits * (degree + 1) > MOST_BITS:
             break
         state = exact_sum(state, passage["terms"], passage["step"], degree)
-        yield state, values, radii
+        yield state, row.values, row.radii
 
 
 def direction_of(passage):
