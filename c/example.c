@@ -3,14 +3,16 @@
  *
  *     example                            the answer
  *     example rows                       the same, from planner_run's rows and summary
+ *     example convert                    the conversion of a stored sheet, which may have up to 400 steps
  *     example first QUANTITY NEED RUN    the first row from which on RUN rows in a row have at least NEED units of the
  *                                        quantity (numbered from 1) for certain: a line first=ROW, or first=0 where there
  *                                        is none, or refused=NUMBER where the query is refused; then the answer's last
  *                                        two lines. Where a step is refused, the rows before it are looked through. Where
  *                                        the sheet cannot be read, there are only the two lines
  *
- * The exit status is the answer's result or, where that is 0, the number with which the query is refused; 64 where the
- * arguments are not understood or the sheet has no such quantity; 74 where nothing could be read or written.
+ * The exit status is the answer's result or, where that is 0, the number with which the query is refused; of a conversion
+ * 0; 64 where the arguments are not understood or the sheet has no such quantity; 74 where nothing could be read or
+ * written.
  */
 #include <errno.h>
 #include <inttypes.h>
@@ -24,6 +26,7 @@ enum { NOT_UNDERSTOOD = 64, FAILED = 74 };
 static uint8_t sheet[PLANNER_SHEET_LENGTH];
 static int64_t rows[PLANNER_ROWS_LENGTH];
 static uint8_t text[PLANNER_TEXT_LENGTH];
+static uint8_t converted[PLANNER_CONVERTED_LENGTH];
 
 static void print_end(const uint64_t *summary)
 {
@@ -36,8 +39,9 @@ static void print_rows(const uint64_t *summary)
     for (size_t j = 0; j < summary[PLANNER_ROWS]; j++) {
         printf("row=%zu\ndegree=%" PRId64 "\n", j + 1, rows[PLANNER_DEGREE_PLACE(n, j)]);
         for (size_t i = 0; i < n; i++)
-            printf("value=%" PRId64 "\nradius=%" PRId64 "\n",
-                   rows[PLANNER_VALUE_PLACE(n, j, i)], rows[PLANNER_RADIUS_PLACE(n, j, i)]);
+            printf("value=%" PRId64 "\nradius=%" PRId64 "\nlow=%" PRId64 "\nhigh=%" PRId64 "\n",
+                   rows[PLANNER_VALUE_PLACE(n, j, i)], rows[PLANNER_RADIUS_PLACE(n, j, i)],
+                   rows[PLANNER_LOW_PLACE(n, j, i)], rows[PLANNER_HIGH_PLACE(n, j, i)]);
     }
     print_end(summary);
 }
@@ -74,20 +78,31 @@ static int is_query(int argc, char **argv, struct query *query)
            is_number(argv[3], &query->need) && is_number(argv[4], &query->run);
 }
 
+static int was_written(void)
+{
+    return fflush(stdout) == 0 && !ferror(stdout);
+}
+
 int main(int argc, char **argv)
 {
     uint64_t summary[PLANNER_SUMMARY_LENGTH];
     struct query query;
     int for_rows = argc == 2 && strcmp(argv[1], "rows") == 0;
+    int for_conversion = argc == 2 && strcmp(argv[1], "convert") == 0;
     int for_first = is_query(argc, argv, &query);
     int refused = 0;
-    if (argc > 1 && !for_rows && !for_first) {
-        fputs("Usage: example [rows | first QUANTITY NEED RUN] <SHEET\n", stderr);
+    if (argc > 1 && !for_rows && !for_conversion && !for_first) {
+        fputs("Usage: example [rows | convert | first QUANTITY NEED RUN] <SHEET\n", stderr);
         return NOT_UNDERSTOOD;
     }
     size_t sheet_length = fread(sheet, 1, sizeof sheet, stdin);
     if (ferror(stdin))
         return FAILED;
+    if (for_conversion) {
+        size_t length = planner_convert(sheet, sheet_length, rows, PLANNER_ROWS_LENGTH, converted, sizeof converted);
+        fwrite(converted, 1, length, stdout);
+        return was_written() ? 0 : FAILED;
+    }
     planner_run(sheet, sheet_length, rows, PLANNER_ROWS_LENGTH, summary);
     if (for_rows) {
         print_rows(summary);
@@ -105,7 +120,7 @@ int main(int argc, char **argv)
         size_t length = planner_answer(sheet, sheet_length, rows, PLANNER_ROWS_LENGTH, text, sizeof text);
         fwrite(text, 1, length, stdout);
     }
-    if (fflush(stdout) != 0 || ferror(stdout))
+    if (!was_written())
         return FAILED;
     return summary[PLANNER_RESULT] != 0 ? (int)summary[PLANNER_RESULT] : refused;
 }
