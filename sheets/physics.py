@@ -1,15 +1,19 @@
 """The gallery's answers beside the physics they stand for: closed forms, or a fine integration of the
 original equation, from the middle and the ends of the start's radii. Every printed row must hold
-them within its radii; exits 1 otherwise.
+them within its radii at its own time, and between its lows and highs all through its step; exits 1
+otherwise.
 """
 
 import itertools
 import sys
+from functools import cache
 from math import asin, cos, exp, log, sin, sqrt
 from pathlib import Path
 
 SCALE = 1 << 24
 FLOATING_POINT_ERROR = 1e-2  # In units; the forms below are computed in 64-bit floats.
+FRACTIONS = 32  # Of each step, at which the physics is looked at.
+PATH_STEP = 1 / 2000  # Of the fine integration, in units of time.
 
 
 def tide(rate, height, speed, time):
@@ -27,6 +31,12 @@ def tide_over_sill(start, coefs, time):
     solar = tide(coefs[2], start[2], start[3], time)
     level = start[4] + lunar[0] - start[0] + solar[0] - start[2]
     return [*lunar, *solar, level]
+
+
+def over_low_water(start, coefs, time):
+    """One such motion and the level that rises with it."""
+    height, speed = tide(coefs[0], start[0], start[1], time)
+    return [height, speed, start[2] + height - start[0]]
 
 
 def tide_by_feedback(start, coefs, time):
@@ -82,22 +92,34 @@ def jacobi(start, coefs, time):
     return [sin(angle), cos(angle), sqrt(1 - 0.5 * sin(angle) ** 2)]
 
 
-def van_der_pol(start, coefs, time):
-    """y'' = (1 - y^2) y' - y by the classical Runge-Kutta method in 2,000 steps a unit of time."""
+def runge_kutta(y, slope, h):
+    """A step of the classical Runge-Kutta method along y'' = (1 - y^2) y' - y."""
 
     def rates(y, slope):
         return slope, (1 - y * y) * slope - y
 
-    steps = max(1, round(2000 * abs(time)))
-    h = time / steps
-    y, slope = start[0], start[1]
-    for _ in range(steps):
-        a = rates(y, slope)
-        b = rates(y + h / 2 * a[0], slope + h / 2 * a[1])
-        c = rates(y + h / 2 * b[0], slope + h / 2 * b[1])
-        d = rates(y + h * c[0], slope + h * c[1])
-        y += h / 6 * (a[0] + 2 * b[0] + 2 * c[0] + d[0])
-        slope += h / 6 * (a[1] + 2 * b[1] + 2 * c[1] + d[1])
+    a = rates(y, slope)
+    b = rates(y + h / 2 * a[0], slope + h / 2 * a[1])
+    c = rates(y + h / 2 * b[0], slope + h / 2 * b[1])
+    d = rates(y + h * c[0], slope + h * c[1])
+    return (
+        y + h / 6 * (a[0] + 2 * b[0] + 2 * c[0] + d[0]),
+        slope + h / 6 * (a[1] + 2 * b[1] + 2 * c[1] + d[1]),
+    )
+
+
+@cache
+def path(y, slope):
+    """The motion at the multiples of PATH_STEP, as far as it has been followed."""
+    return [(y, slope)]
+
+
+def van_der_pol(start, coefs, time):
+    """Van der Pol's equation, along its path and by a last part of a step."""
+    followed, steps = path(start[0], start[1]), int(time / PATH_STEP)
+    while len(followed) <= steps:
+        followed.append(runge_kutta(*followed[-1], PATH_STEP))
+    y, slope = runge_kutta(*followed[steps], time - steps * PATH_STEP)
     return [y, slope, start[2] + start[0] ** 2 - y * y]
 
 
@@ -115,6 +137,7 @@ FORMS = {
     "jacobi": jacobi,
     "logarithm": lambda start, coefs, time: [log(time + 1), 1 / (time + 1)],
     "mark-at-quay": tide_over_sill,
+    "over-low-water": over_low_water,
     "ship-losing-way": ship_losing_way,
     "square": lambda start, coefs, time: [1 / (1 - time)],
     "tide-by-feedback": tide_by_feedback,
@@ -132,27 +155,67 @@ def numbers(pairs, key):
     return [number for name, number in pairs if name == key]
 
 
-def largest_used_part(folder, name):
-    """The largest |physics - value| / radius over all rows, starts and quantities."""
-    sheet, answer = lines(folder / f"{name}.sheet"), lines(folder / f"{name}.answer")
-    values, radii = numbers(answer, "value"), numbers(answer, "radius")
-    [step], [n] = numbers(sheet, "step"), numbers(sheet, "n")
-    coefs = [coef / SCALE for coef in numbers(sheet, "coef")]
+def ends(sheet):
+    """The middle and the ends of the start's radii, of each quantity with a radius in each combination."""
     middles, widths = numbers(sheet, "start"), numbers(sheet, "radius")
-    ends = itertools.product(*([-1, 0, 1] if width else [0] for width in widths))
-    starts = [
+    choices = itertools.product(*([-1, 0, 1] if width else [0] for width in widths))
+    return [
         [(middle + end * width) / SCALE for middle, width, end in zip(middles, widths, choice)]
-        for choice in ends
+        for choice in choices
     ]
-    largest = 0
-    for row in range(len(values) // n):
-        place = slice(row * n, (row + 1) * n)
-        for start in starts:
-            physics = FORMS[name](start, coefs, (row + 1) * step / SCALE)
-            for number, value, radius in zip(physics, values[place], radii[place]):
-                off = abs(SCALE * number - value) - FLOATING_POINT_ERROR
-                largest = max(largest, off / radius)
-    return largest
+
+
+class Gallery:
+    """A sheet of the gallery and its answer."""
+
+    def __init__(self, folder, name):
+        self.form = FORMS[name]
+        self.sheet, self.answer = lines(folder / f"{name}.sheet"), lines(folder / f"{name}.answer")
+        [self.step], [self.n] = numbers(self.sheet, "step"), numbers(self.sheet, "n")
+        self.coefs = [coef / SCALE for coef in numbers(self.sheet, "coef")]
+        self.starts = ends(self.sheet)
+
+    def rows(self, key):
+        """The answer's numbers with this key, row by row."""
+        all_rows = numbers(self.answer, key)
+        return [all_rows[place : place + self.n] for place in range(0, len(all_rows), self.n)]
+
+    def farthest(self, time, middles, widths):
+        """The largest |physics - middle| / width at a time, over all starts and quantities."""
+        largest = 0
+        for start in self.starts:
+            physics = self.form(start, self.coefs, time * self.step / SCALE)
+            for number, middle, width in zip(physics, middles, widths):
+                off = abs(SCALE * number - middle) - FLOATING_POINT_ERROR
+                largest = max(largest, off / width)
+        return largest
+
+    def reaches(self):
+        """Of each row the middles between its lows and highs, and how far these are from them."""
+        for lows, highs in zip(self.rows("low"), self.rows("high")):
+            yield (
+                [(low + high) / 2 for low, high in zip(lows, highs)],
+                [(high - low) / 2 for low, high in zip(lows, highs)],
+            )
+
+    def part_of_radii(self):
+        """The largest part of a radius that the physics uses, at the rows' own times."""
+        rows = zip(itertools.count(1), self.rows("value"), self.rows("radius"))
+        return max(self.farthest(time, values, radii) for time, values, radii in rows)
+
+    def part_of_reaches(self):
+        """The largest part of a reach that it uses, all through the steps."""
+        return max(
+            self.farthest(before + part / FRACTIONS, middles, reaches)
+            for before, (middles, reaches) in enumerate(self.reaches())
+            for part in range(FRACTIONS + 1)
+        )
+
+    def widths(self):
+        """How many times a reach is the radius at the end of its step: the least and the most."""
+        pairs = zip(self.reaches(), self.rows("radius"))
+        parts = [reach / radius for (_, reaches), radii in pairs for reach, radius in zip(reaches, radii)]
+        return min(parts), max(parts)
 
 
 def main():
@@ -160,9 +223,13 @@ def main():
     names = sorted(path.stem for path in folder.glob("*.sheet"))
     outside = 0
     for name in names:
-        largest = largest_used_part(folder, name)
-        outside += largest > 1
-        print(f"{name}: the physics uses at most {largest:.5f} of a radius")
+        gallery = Gallery(folder, name)
+        radius, reach = gallery.part_of_radii(), gallery.part_of_reaches()
+        outside += radius > 1 or reach > 1
+        print(
+            f"{name}: the physics uses at most {radius:.5f} of a radius, and {reach:.5f} of a reach, "
+            "which is {:.1f} to {:.1f} times the radius".format(*gallery.widths())
+        )
     return 1 if outside else 0
 
 
