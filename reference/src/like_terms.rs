@@ -32,16 +32,7 @@ fn factors(term: &Term) -> [i64; 2] {
 #[cfg(test)]
 mod tests {
     use super::*;
-    use crate::sheet::{COEF, TERMS};
-
-    fn term(to: i64, coef: i64, first: i64, second: i64) -> Term {
-        Term {
-            to,
-            coef,
-            first,
-            second,
-        }
-    }
+    use crate::sheet::{COEF, TERMS, term};
 
     /// Terms of one target and one product, by their coefficients.
     fn of_one_product(coefs: &[i64]) -> Vec<Term> {

@@ -72,6 +72,24 @@ pub struct Sheet {
     pub terms: Vec<Term>,
 }
 
+/// A start that was read, with its radius.
+pub fn start(value: i64, radius: i64) -> Start {
+    Start {
+        value: Some(value),
+        radius,
+    }
+}
+
+/// A term, field by field.
+pub fn term(to: i64, coef: i64, first: i64, second: i64) -> Term {
+    Term {
+        to,
+        coef,
+        first,
+        second,
+    }
+}
+
 impl Sheet {
     /// The places that one row takes.
     pub fn row_places(&self) -> usize {

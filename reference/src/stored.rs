@@ -9,7 +9,7 @@ use crate::generate::{
 use crate::random::Random;
 use crate::rounding::SCALE;
 use crate::rows;
-use crate::sheet::{LIMIT, STEPS, STORED_STEPS, Sheet, Start, TAIL, Term, read_stored, text};
+use crate::sheet::{LIMIT, STEPS, STORED_STEPS, Sheet, TAIL, read_stored, start, term, text};
 use crate::step::{MOST_RATIO, ratio};
 
 /// A stored sheet, the places lent for the rows of its first part, and what decides on the bytes lent for its
@@ -213,22 +213,6 @@ fn at_the_ratio(random: &mut Random) -> Sheet {
         sheet.terms[1].coef = strongest;
     }
     sheet
-}
-
-fn start(value: i64, radius: i64) -> Start {
-    Start {
-        value: Some(value),
-        radius,
-    }
-}
-
-fn term(to: i64, coef: i64, first: i64, second: i64) -> Term {
-    Term {
-        to,
-        coef,
-        first,
-        second,
-    }
 }
 
 /// The largest coefficient of the second term, of its own sign, whose ratio at the scale is at most one half.

@@ -6,7 +6,7 @@ use reference::compare::{Converted, both_converted};
 use reference::convert::Conversion;
 use reference::passage::{Refused, carry};
 use reference::rows::{self, Parts};
-use reference::sheet::{MOST_PLACES, Refusal, Sheet, Start, Term, read, read_stored, text};
+use reference::sheet::{MOST_PLACES, Refusal, Sheet, Start, read, read_stored, start, term, text};
 use reference::stored::StoredTrial;
 
 const MARK: i64 = i64::MIN;
@@ -21,22 +21,6 @@ fn rising(steps: i64) -> Sheet {
         tol: 1 << 29,
         starts: vec![start(0, 3), start(WHOLE, 0)],
         terms: vec![term(1, WHOLE, 0, 0)],
-    }
-}
-
-fn start(value: i64, radius: i64) -> Start {
-    Start {
-        value: Some(value),
-        radius,
-    }
-}
-
-fn term(to: i64, coef: i64, first: i64, second: i64) -> Term {
-    Term {
-        to,
-        coef,
-        first,
-        second,
     }
 }
 
