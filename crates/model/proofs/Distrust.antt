@@ -11,17 +11,21 @@ use borrow.Author.Tests.{le-leb}
 use lib.IntN.{ℤ, pos, negℤ, _*ℤ_, pow, one}
 use lib.ListN.{getD}
 use Rattle.rounding.specs.Enclosure.{Within}
-use Rattle.model.specs.Range.{sumℤ, tabulate}
-use Rattle.model.specs.Sheet.{scale, no-term, no-quantity, listed, termsOf, startValue, startBall, startsOf, padded, quantitiesHeld, termsHeld}
+use Rattle.rounding.specs.Rounding.{near, nearℕ, up}
+use Rattle.model.specs.Range.{sum, sumℤ, largest, every, tabulate, least}
+use Rattle.model.specs.Sheet.{scale, ask, _then_, inOrder, from_to_, ±_, within, most, n-limits, steps-limits, step-limits, stepWithin, tail-limits, tol-limits, start-limits, radius-limits, terms-limits, to-limits, coef-limits, first-limits, second-limits, inRange, stepVerdict, headVerdict, startVerdict, quantityVerdict, quantitiesVerdict, termVerdict, termsVerdict, sheetVerdictTo, no-term, no-quantity, listed, termsOf, startValue, startBall, startsOf, padded, quantitiesHeld, termsHeld}
+use Rattle.model.specs.LikeTerms.{like, coefsLike, filter, summed, nonzero, gathered}
 use Rattle.model.specs.Exact.{binomial, bringsℤ, State, order, factorℤ, product, nextOrder, ordersTo, sumDenominator, sumNumerator, exactSum}
-use Rattle.model.specs.Step.{Ball, no-ball, no-span, Row}
+use Rattle.model.specs.Step.{Ball, no-ball, no-span, Row, reach, greatest, factors, brings, coefOf, coefs, size, ratio, majorant, tailAt, degree, coefficient, factor, productRadius, products, times, share, nextCoefficient, coefficientsTo, newBall, stepReach, newSpan, newRow, stepRow}
+use Rattle.model.specs.Rows.{width}
+use Rattle.model.specs.Passage.{question, small, most-ratio, slow, tolerable, tolerated, advance, goOn, follow, placesNeeded, run, passage}
 use Rattle.model.specs.Trust.{LiesWithin, stateAfter, no-row, NoLower, Trusted, TrustedOf, startOf, Spanned, SpannedOf}
 use Rattle.model.specs.declared.Sheet.{Sheet}
 use Rattle.model.specs.declared.Term.{Term}
 use Rattle.model.specs.declared.Start.the-variants.{Reading}
 
 -- case A as numbers, with this step
-pub case-A : ℤ → Sheet
+unfoldable pub case-A : ℤ → Sheet
 case-A step =
     record {
       head = record { n = 1; steps = 1; step = step; tail = 349526; tol = 349534 };
@@ -34,7 +38,7 @@ pub row-of-A : List Row
 row-of-A = record { degree = 2; balls = record { value = pos 22020096; radius = 349534 } ∷ []; spans = [] } ∷ []
 
 -- the start as an exact state: one whole
-whole : State
+unfoldable pub whole : State
 whole = record { denominator = 1; numerators = pos 1 ∷ [] }
 
 start-lies : (step : ℤ) → LiesWithin (startsOf (case-A step)) whole
@@ -65,9 +69,14 @@ value-alone-distrusted h =
 -- ---- between the rows
 
 -- case A's row with this low and this high
-pub row-between : ℤ → ℤ → List Row
+unfoldable pub row-between : ℤ → ℤ → List Row
 row-between low high =
     record { degree = 2; balls = record { value = pos 22020096; radius = 349534 } ∷ []; spans = record { low = low; high = high } ∷ [] } ∷ []
+
+-- with these it is the one that A's passage writes
+pub rows-of-A : passage (case-A (pos 4194304)) 5 .rows ≡ row-between (pos 11184802) (pos 22369630)
+unfolding case-A row-between near nearℕ up sum sumℤ largest every tabulate least scale ask _then_ inOrder from_to_ ±_ within most n-limits steps-limits step-limits stepWithin tail-limits tol-limits start-limits radius-limits terms-limits to-limits coef-limits first-limits second-limits inRange stepVerdict headVerdict startVerdict quantityVerdict quantitiesVerdict termVerdict termsVerdict sheetVerdictTo no-quantity no-term padded quantitiesHeld termsHeld listed termsOf startValue startBall startsOf bringsℤ like coefsLike filter summed nonzero gathered no-ball reach greatest factors brings coefOf coefs size ratio majorant tailAt degree coefficient factor productRadius products times share nextCoefficient coefficientsTo newBall stepReach newSpan newRow stepRow question small most-ratio slow tolerable tolerated advance goOn follow width placesNeeded run passage
+rows-of-A = refl
 
 -- from the start up, where A goes down
 pub forward-span-distrusted : SpannedOf (case-A (negℤ (pos 4194304))) (row-between (pos 16777216) (pos 22369630)) → ⊥

@@ -40,6 +40,7 @@ pub mod NoTerms
 pub mod Enclosed
 pub mod SpannedStep
 pub mod Spanned
+pub mod EndsBetween
 pub mod ExactStates
 pub mod Halving
 pub mod Taken

@@ -11,8 +11,9 @@ use native.Mathlib.Omega.{arith}
 use lib.IntN.{ℤ, pos, natAbs, _+ℤ_, _*ℤ_, zero-*ℤ, *ℤ-zero, +ℤ-idl, +ℤ-idr, +ℤ-assoc, +ℤ-comm}
 use lib.ListN.{length, getD, length-append, List·getD-append, List·getD-eq-default}
 use lib.Seq.{getD-at, ext-getD}
+use lib.Signed.{_≤ℤ_, ≤ℤ-refl}
 use Rattle.rounding.specs.Enclosure.{Within}
-use Rattle.rounding.proofs.Integers.{abs-add, mul-addℤ}
+use Rattle.rounding.proofs.Integers.{abs-add, le-add, mul-addℤ}
 use Rattle.rounding.proofs.Enclosure.{within-sum, within-exact}
 use Rattle.model.specs.Range.{sum, sumℤ, largest, tabulate}
 
@@ -54,6 +55,11 @@ unfolding sum
 sum-le zero f g h = omega arith
 sum-le (suc n) f g h = omega (arith, sum-le n f g (below n h), h n (omega arith))
 
+pub sumℤ-le : (n : ℕ) (f g : ℕ → ℤ) → ((k : ℕ) → k < n → f k ≤ℤ g k) → sumℤ n f ≤ℤ sumℤ n g
+unfolding sumℤ
+sumℤ-le zero f g h = ≤ℤ-refl (pos 0)
+sumℤ-le (suc n) f g h = le-add (sumℤ-le n f g (below n h)) (h n (omega arith))
+
 pub sum-plus : (n : ℕ) (f g : ℕ → ℕ) → sum n (λ k. f k + g k) ≡ sum n f + sum n g
 unfolding sum
 sum-plus zero f g = refl
@@ -73,18 +79,7 @@ sumℤ-zero (suc n) f h = ap₂ (λ (a b : ℤ). a +ℤ b) (sumℤ-zero n f (bel
 pub sumℤ-last : (n : ℕ) (f : ℕ → ℤ) → ((k : ℕ) → k < n → f k ≡ pos 0) → sumℤ (suc n) f ≡ f n
 sumℤ-last n f h = sumℤ-suc n f ∙ ap (λ (z : ℤ). z +ℤ f n) (sumℤ-zero n f h) ∙ +ℤ-idl (f n)
 
--- where all are 0, or all but one
-pub sum-zero : (n : ℕ) (f : ℕ → ℕ) → ((k : ℕ) → k < n → f k ≡ 0) → sum n f ≡ 0
-unfolding sum
-sum-zero zero f h = refl
-sum-zero (suc n) f h = omega (arith, sum-zero n f (below n h), h n (omega arith))
-
-pub sum-single : (n i : ℕ) (f : ℕ → ℕ) → i < n → ((k : ℕ) → k < n → (k ≡ i → ⊥) → f k ≡ 0) → sum n f ≡ f i
-unfolding sum
-sum-single zero i f h rest = absurd (omega arith)
-sum-single (suc n) i f h rest =
-    ⊎-elim (λ (e : i ≡ n). rw e (omega (arith, sum-zero n f (λ k l. rest k (omega arith) (λ same. omega arith))))) (λ (l : i < n). omega (arith, sum-single n i f l (below n rest), rest n (omega arith) (λ same. omega arith))) (eq-or-lt-of-le {n = i} {m = n} (omega arith))
-
+-- where all are 0 but one
 pub sumℤ-single : (n i : ℕ) (f : ℕ → ℤ) → i < n → ((k : ℕ) → k < n → (k ≡ i → ⊥) → f k ≡ pos 0) → sumℤ n f ≡ f i
 sumℤ-single zero i f h rest = absurd (omega arith)
 sumℤ-single (suc n) i f h rest =

@@ -110,11 +110,11 @@ module _ {n : ℕ} {rows : List Row} (w : Wide n rows) (buffer : List ℤ) (j : 
   unfolding rowParts no-ball
   radius-written i k = part-written radii-part i (omega arith) k ∙ List·getD-map (λ ball. pos (ball .radius)) (getD rows j no-row .balls) i no-ball
 
-  low-written : (i : ℕ) → i < n → getD (written rows buffer) (partPlace n j lows-part i) (pos 0) ≡ getD (getD rows j no-row .spans) i no-span .low
+  pub low-written : (i : ℕ) → i < n → getD (written rows buffer) (partPlace n j lows-part i) (pos 0) ≡ getD (getD rows j no-row .spans) i no-span .low
   unfolding rowParts no-span
   low-written i k = part-written lows-part i (omega arith) k ∙ List·getD-map (λ span. span .low) (getD rows j no-row .spans) i no-span
 
-  high-written : (i : ℕ) → i < n → getD (written rows buffer) (partPlace n j highs-part i) (pos 0) ≡ getD (getD rows j no-row .spans) i no-span .high
+  pub high-written : (i : ℕ) → i < n → getD (written rows buffer) (partPlace n j highs-part i) (pos 0) ≡ getD (getD rows j no-row .spans) i no-span .high
   unfolding rowParts no-span
   high-written i k = part-written highs-part i (omega arith) k ∙ List·getD-map (λ span. span .high) (getD rows j no-row .spans) i no-span
 

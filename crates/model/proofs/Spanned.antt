@@ -2,15 +2,17 @@
 -- step started from. Assumes nothing.
 use Prim.Native.Nat.{ℕ, zero, suc, _*_, _≤_, _<_}
 use mathlib.Core.List.{List, [], _∷_}
-use mathlib.Core.Path.{_≡_, refl}
+use mathlib.Core.Path.{_≡_, refl, ap}
 use native.Mathlib.Omega.{arith}
 use lib.IntN.{ℤ, pos, _*ℤ_}
+use lib.ListN.{length, take}
+use lib.Seq.{length-take-le, getD-take}
 use Rattle.model.specs.Sheet.{scale, passes, sheetVerdict, termsOf, startsOf}
 use Rattle.model.specs.Exact.{State, exactSum}
 use Rattle.model.specs.LikeTerms.{gathered}
 use Rattle.model.specs.Step.{Ball, Row}
 use Rattle.model.specs.Passage.{Advance, moves, stops, advance, Run, refused, goOn, follow, run, passage}
-use Rattle.model.specs.Trust.{LiesWithin, LiesBetween, startOf, Spanned, SpannedOf}
+use Rattle.model.specs.Trust.{LiesWithin, LiesBetween, no-row, startOf, Spanned, SpannedOf}
 use Rattle.model.specs.declared.Sheet.{Sheet}
 use Rattle.model.specs.declared.Term.{Term}
 use Rattle.model.proofs.SpannedStep.{step-between}
@@ -39,6 +41,17 @@ row-then-spanned : (terms : List Term) (H : ℤ) (balls : List Ball) (row : Row)
 unfolding Spanned startOf
 row-then-spanned terms H balls row rows holds rest zero lt state within = holds state within
 row-then-spanned terms H balls row rows holds rest (suc j) lt state within = rest j (omega arith) state (rw (start-shifts balls row rows j) at within)
+
+-- the first rows of rows that are spanned are spanned
+pub spanned-prefix : (terms : List Term) (H : ℤ) (starts : List Ball) (rows : List Row) (count : ℕ) → count ≤ length rows → Spanned terms H starts rows → Spanned terms H starts (take count rows)
+unfolding Spanned startOf
+spanned-prefix terms H starts rows count few spanned j lt state within u w positive part K h =
+    let here : j < count = omega (arith, length-take-le count rows few) in
+    rw (getD-take count rows j no-row here) (spanned j (omega arith) state (rw (start-in-prefix j here) at within) u w positive part K (rw (getD-take count rows j no-row here) at h))
+  where
+    start-in-prefix : (j : ℕ) → j < count → startOf starts (take count rows) j ≡ startOf starts rows j
+    start-in-prefix zero h = refl
+    start-in-prefix (suc j) h = ap (λ (row : Row). row .balls) (getD-take count rows j no-row (omega arith))
 
 -- ---- step after step
 

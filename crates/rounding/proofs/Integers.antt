@@ -171,11 +171,6 @@ from-parts (pos a) (negsuc b) h = absurd (omega arith)
 from-parts (negsuc a) (pos b) h = absurd (omega arith)
 from-parts (negsuc a) (negsuc b) h = ap negsuc (omega arith)
 
-pub abs-le : (z : ℤ) {k : ℕ} → positive z ≤ negative z + k → negative z ≤ positive z + k → natAbs z ≤ k
-unfolding positive negative
-abs-le (pos n) h k = omega arith
-abs-le (negsuc n) h k = omega arith
-
 pub le-parts : {a b : ℤ} → a ≤ℤ b → positive a + negative b ≤ positive b + negative a
 unfolding positive negative
 le-parts {a = pos a} {b = pos b} h = omega (arith, leb→le a b (h .le))
@@ -216,6 +211,14 @@ le-test {a} {b} h = go (leZ a b) (h .le)
 -- a sum in between
 pub le-sums : (a b c d : ℤ) → a ≤ℤ (b +ℤ c) → c ≤ℤ d → a ≤ℤ (b +ℤ d)
 le-sums a b c d h k = parts-le a (b +ℤ d) (omega (arith, le-parts h, le-parts k, add-parts b c, add-parts b d))
+
+-- two inequalities added
+pub le-add : {a b c d : ℤ} → a ≤ℤ b → c ≤ℤ d → (a +ℤ c) ≤ℤ (b +ℤ d)
+le-add {a} {b} {c} {d} h k = parts-le (a +ℤ c) (b +ℤ d) (omega (arith, le-parts h, le-parts k, add-parts a c, add-parts b d))
+
+-- and turned about by a minus
+pub le-neg : {a b : ℤ} → a ≤ℤ b → negℤ b ≤ℤ negℤ a
+le-neg {a} {b} h = parts-le (negℤ b) (negℤ a) (omega (arith, le-parts h, neg-parts a, neg-parts b))
 
 pub abs-add : (a b : ℤ) → natAbs (a +ℤ b) ≤ natAbs a + natAbs b
 abs-add a b = omega (arith, add-parts a b, abs-parts a, abs-parts b, abs-parts (a +ℤ b))
