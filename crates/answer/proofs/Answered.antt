@@ -66,8 +66,8 @@ module _ (sheet : List ℕ) (lent : ℕ) where
   unfolding runLent
   lent-accepted e = rw (e, runLent)
 
-  -- a refused sheet is that of zeros, whose passage has no rows either
-  rows-are : runLent sheet lent .rows ≡ passage (readSheet sheet .sheet) lent .rows
+  -- the rows are those of the passage of the sheet as read: a refused one is that of zeros, whose passage has no rows either
+  pub rows-are : runLent sheet lent .rows ≡ passage (readSheet sheet .sheet) lent .rows
   rows-are = go (readSheet sheet .outcome) refl
     where
       go : (outcome : Outcome) → readSheet sheet .outcome ≡ outcome → runLent sheet lent .rows ≡ passage (readSheet sheet .sheet) lent .rows

@@ -1,11 +1,13 @@
 pub mod Cases
 pub mod Ranges
 pub mod Weighing
+pub mod InRange
 pub mod FirstRun
 pub mod Streaks
 pub mod RowsClear
 pub mod Uncertain
-pub mod ClearTrusts
+pub mod CertainAtEnd
+pub mod ClearSpans
 pub mod Meant
 pub mod Said
 pub mod OwnRows

@@ -14,48 +14,33 @@ use Rattle.model.specs.Sheet.{most-steps, Verdict, passes, refuses, ask, _then_
 use Rattle.model.specs.Rows.{width, rowsIn}
 use Rattle.model.specs.declared.Refusal.{Refusal}
 use Rattle.model.specs.declared.Refusal.the-variants.{OutOfRange, TooFewPlaces, QueryOutOfRange, RowOutOfRange}
-use Rattle.model.proofs.Verdicts.{both-pass, answered-yes, in-range}
 use Rattle.clearance.specs.Clearance.{firstRun, count-limits, queryWithin, rowWithin, clearVerdict, firstClear, foundNumber}
 use Rattle.clearance.specs.Asked.{NamesRow}
 use Rattle.clearance.specs.Claim.{Answers, Said}
 use Rattle.clearance.specs.declared.Query.{Query}
 use Rattle.clearance.specs.declared.Found.{Found}
 use Rattle.clearance.specs.declared.Found.the-variants.{At, Refused}
-use Rattle.clearance.proofs.Ranges.{query-ranges, length-rows}
+use Rattle.clearance.proofs.Ranges.{length-rows}
+use Rattle.clearance.proofs.InRange.{passed-in-range}
 use Rattle.clearance.proofs.FirstRun.{first-run-answers, answered-row}
-use Rattle.clearance.proofs.RowsClear.{trusted-clears, wrote-trusted}
+use Rattle.clearance.proofs.RowsClear.{spanned-clears, wrote-trusted, wrote-spanned}
 
 -- ---- the whole claim
 
 module _ (n count : ℕ) (buffer : List ℤ) (query : Query) where
-  -- a verdict that passes has asked every question
-  pub record Passed : Type 0 where
-    pub quantities : inRange n-limits (pos n) ≡ passes
-    pub rows : inRange count-limits (pos count) ≡ passes
-    pub query-within : queryWithin n query ≡ true
-
-  pub verdict-passed : clearVerdict n count buffer query ≡ passes → Passed
-  unfolding clearVerdict
-  verdict-passed e =
-      let a = both-pass (inRange n-limits (pos n)) _ e in
-      let b = both-pass (inRange count-limits (pos count)) _ (a .1) in
-      let c = both-pass (ask (leb (count * width n) (length buffer)) TooFewPlaces) _ (b .1) in
-      let d = both-pass (ask (queryWithin n query) QueryOutOfRange) _ (c .1) in
-      record { quantities = a .0; rows = b .0; query-within = answered-yes (queryWithin n query) QueryOutOfRange (d .0) }
-
   clear-answers : Answers query (rowsIn n count buffer) (firstClear n count buffer query)
   unfolding firstClear
   clear-answers = go (clearVerdict n count buffer query) refl
     where
       go : (v : Verdict) → clearVerdict n count buffer query ≡ v → Answers query (rowsIn n count buffer) (elim v [ refuses r ↦ Refused r | passes ↦ firstRun query (rowsIn n count buffer) ])
       go (refuses r) e = unfold Answers in tt
-      go passes e = first-run-answers query (rowsIn n count buffer) (query-ranges n query (verdict-passed e .query-within) .run-low)
+      go passes e = first-run-answers query (rowsIn n count buffer) (passed-in-range n count buffer query e .asked .run-low)
 
   pub all-said : Said n count buffer query (firstClear n count buffer query)
   all-said =
       record {
         answers = clear-answers;
-        clear = λ sheet w. trusted-clears sheet query (rowsIn n count buffer) (wrote-trusted sheet n count buffer w) (firstClear n count buffer query) clear-answers;
+        clear = λ sheet w. spanned-clears sheet query (rowsIn n count buffer) (wrote-trusted sheet n count buffer w) (wrote-spanned sheet n count buffer w) (firstClear n count buffer query) clear-answers;
       }
 
 -- ---- the row that is answered, as a number
@@ -68,10 +53,10 @@ module _ (n count : ℕ) (buffer : List ℤ) (query : Query) where
       go : (v : Verdict) → clearVerdict n count buffer query ≡ v → found ≡ elim v [ refuses r ↦ Refused r | passes ↦ firstRun query (rowsIn n count buffer) ] → row ≤ most-steps
       go (refuses r) asked is = absurd (let z : _≡_ {A = ℕ} 0 1 = cc in omega arith)
       go passes asked is =
-          let passed = verdict-passed n count buffer query asked in
-          let some = query-ranges n query (passed .query-within) .run-low in
+          let passed = passed-in-range n count buffer query asked in
+          let some = passed .asked .run-low in
           let named : firstRun query (rowsIn n count buffer) ≡ At row = sym is ∙ f in
-          omega (arith, answered-row query (rowsIn n count buffer) some row (rw named at (first-run-answers query (rowsIn n count buffer) some)), length-rows n count buffer, in-range {low = 0} {high = most-steps} count (passed .rows))
+          omega (arith, answered-row query (rowsIn n count buffer) some row (rw named at (first-run-answers query (rowsIn n count buffer) some)), length-rows n count buffer, passed .counted)
 
 -- ---- question by question, as the code asks them
 

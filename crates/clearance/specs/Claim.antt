@@ -1,5 +1,6 @@
--- Document 02, CR 2: what an answer says, and what a pilot may say of it over the exact sums: each exact state of a certain row clears the need.
-use Prim.Native.Nat.{ℕ, zero, suc, _+_, _≤_, _<_}
+-- Document 02, CR 2 and CR 6: what an answer says, and what a pilot may say of it over the exact sums: at every fraction of the step of a certain row the
+-- exact clearance is at least the need.
+use Prim.Native.Nat.{ℕ, zero, suc, _+_, _*_, _≤_, _<_}
 use mathlib.Core.Bool.{true}
 use mathlib.Core.List.{List}
 use mathlib.Core.Logic.{_⊎_}
@@ -9,12 +10,13 @@ use lib.ListN.{length, getD, take}
 use lib.Signed.{_≤ℤ_}
 use Rattle.model.specs.Range.{sumℤ}
 use Rattle.model.specs.Sheet.{scale, termsOf, startsOf}
-use Rattle.model.specs.Exact.{State}
+use Rattle.model.specs.Exact.{State, exactSum}
 use Rattle.model.specs.Step.{Row}
 use Rattle.model.specs.Rows.{rowsIn}
 use Rattle.model.specs.Passage.{passage, rowsWritten}
 use Rattle.model.specs.Trust.{LiesWithin, stateAfter, NoLower, no-row}
 use Rattle.model.specs.declared.Sheet.{Sheet}
+use Rattle.model.specs.declared.Term.{Term}
 use Rattle.model.specs.declared.Refusal.{Refusal}
 use Rattle.model.specs.declared.Refusal.the-variants.{OutOfRange, QueryOutOfRange}
 use Rattle.model.specs.declared.Outcome.{Outcome}
@@ -45,19 +47,29 @@ pub record Clears (query : Query) (state : State) : Type 0 where
   pub rational : 0 < state .denominator
   pub enough : (query .need *ℤ pos scale *ℤ pos (state .denominator)) ≤ℤ (query .base *ℤ pos scale *ℤ pos (state .denominator) +ℤ sumℤ (length (state .numerators)) (λ i. weight query i *ℤ (pos scale *ℤ getD (state .numerators) i (pos 0))))
 
--- `exact j` being the exact state of the row with number j: that of every certain row clears the need, and so does that of each row of the run
--- that is answered
-pub record EachClears (query : Query) (rows : List Row) (found : Found) (exact : ℕ → State) : Type 0 where
-  pub certain-row : (j : ℕ) → j < length rows → certain query (getD rows j no-row) ≡ true → Clears query (exact (suc j))
-  pub run : (first i : ℕ) → found ≡ At first → i < query .run → Clears query (exact (first + i))
+-- A step from a state is clear all the way: at every fraction u ÷ w of it from 0 to 1 and for every degree no lower than d, the exact sum clears the need.
+-- At the fraction the step H ÷ s is (H u) ÷ (s w).
+unfoldable pub ClearsAllTheWay : Query → List Term → ℤ → ℕ → State → Type 0
+ClearsAllTheWay query terms H d state =
+    (u w : ℕ) → 0 < w → u ≤ w →
+    (K : ℕ) → d ≤ K →
+    Clears query (exactSum terms (H *ℤ pos u) (scale * w) K state)
 
--- Of rows that a sheet's passage wrote: from every exact state within the start's radii and by any degrees no lower than the printed ones,
--- followed from step to step over the sheet's own terms.
+-- `Clear j` being what may be said of the step of row j, the rows counted from 0: it may be said of every certain row, and of each row of the run that is
+-- answered
+pub record EachClear (query : Query) (rows : List Row) (found : Found) (Clear : ℕ → Type 0) : Type 0 where
+  pub certain-row : (j : ℕ) → j < length rows → certain query (getD rows j no-row) ≡ true → Clear j
+  pub run : (j i : ℕ) → found ≡ At (suc j) → i < query .run → Clear (j + i)
+
+-- From every exact state within the radii of the sheet's start and by any degrees no lower than the rows' own, followed from step to step over the
+-- sheet's own terms, the step of each such row is clear all the way. (`Said` says it of rows that the sheet's passage wrote.)
 unfoldable pub ClearOf : Sheet → Query → List Row → Found → Type 0
 ClearOf sheet query rows found =
+    let terms = termsOf sheet in
+    let H = sheet .head .step in
     (state : State) → LiesWithin (startsOf sheet) state →
     (degrees : List ℕ) → NoLower degrees rows →
-    EachClears query rows found (stateAfter (termsOf sheet) (sheet .head .step) degrees state)
+    EachClear query rows found (λ j. ClearsAllTheWay query terms H (getD rows j no-row .degree) (stateAfter terms H degrees state j))
 
 -- A sheet's passage wrote the first `count` rows of a buffer, with some places lent: they are the first so many of its rows. Where it is refused at a
 -- step, its earlier rows are its rows.

@@ -1,18 +1,19 @@
--- Document 02, CR 2 ('first water for a ship'): the first row that opens a run of so many certain rows in a row. Rows are counted from 0 here and
--- numbered from 1 in the answer.
+-- Document 02, CR 2 and CR 6 ('first water for a ship', 'clear all the way'): the first row that opens a run of so many certain rows in a row. Rows are
+-- counted from 0 here and numbered from 1 in the answer.
 use Prim.Native.Nat.{ℕ, suc, _+_, _*_}
 use mathlib.Core.Bool.{Bool, cond, _&&_}
 use mathlib.Core.List.{List}
 use lib.Dec.{leb, ltb}
-use lib.IntN.{ℤ, pos, negℤ, natAbs, _+ℤ_, _-ℤ_, _*ℤ_}
+use lib.IntN.{ℤ, pos, negℤ, _+ℤ_, _*ℤ_}
 use lib.ListN.{length, getD}
-use lib.Signed.{leZ}
-use Rattle.model.specs.Range.{sum, sumℤ, every, least}
+use lib.Signed.{leZ, ltZ}
+use Rattle.model.specs.Range.{sumℤ, every, least}
 use Rattle.model.specs.Sheet.{scale, most, most-steps, number, Verdict, passes, refuses, ask, _then_, from_to_, ±_, within, n-limits, inRange}
-use Rattle.model.specs.Step.{no-ball, Row}
-use Rattle.model.specs.Rows.{values-part, radii-part, width, partPlace, rowsIn}
+use Rattle.model.specs.Step.{no-span, Row}
+use Rattle.model.specs.Rows.{values-part, radii-part, lows-part, highs-part, width, partPlace, rowsIn}
 use Rattle.model.specs.Trust.{no-row}
 use Rattle.model.specs.declared.Limits.{Limits}
+use Rattle.model.specs.declared.Span.{Span}
 use Rattle.model.specs.declared.Refusal.the-variants.{TooFewPlaces, QueryOutOfRange, RowOutOfRange}
 use Rattle.clearance.specs.declared.Query.{Query}
 use Rattle.clearance.specs.declared.Found.{Found}
@@ -24,12 +25,15 @@ use Rattle.clearance.specs.declared.Found.the-variants.{At, Nowhere, Ref
 unfoldable pub weight : Query → ℕ → ℤ
 weight query i = getD (query .weights) i (pos 0)
 
--- base × s + the sum of weight × value - the sum of |weight| × radius
+-- the end of a span that a weight takes: a positive one the low, a negative one the high; whichever 0 takes, it counts nothing
+unfoldable pub endFor : ℤ → Span → ℤ
+endFor w span = cond (ltZ w (pos 0)) (span .high) (span .low)
+
+-- base × s + the sum of weight × that end
 unfoldable pub assured : Query → Row → ℤ
 assured query row =
     query .base *ℤ pos scale
-    +ℤ sumℤ (length (row .balls)) (λ i. weight query i *ℤ getD (row .balls) i no-ball .value)
-    -ℤ pos (sum (length (row .balls)) (λ i. natAbs (weight query i) * getD (row .balls) i no-ball .radius))
+    +ℤ sumℤ (length (row .spans)) (λ i. weight query i *ℤ endFor (weight query i) (getD (row .spans) i no-span))
 
 -- a row is certain when that is at least need × s
 unfoldable pub certain : Query → Row → Bool
@@ -73,7 +77,7 @@ run-limits = from 1 to most-steps
 abbrev pub most-place : ℕ
 most-place = 2147483648
 
--- a value in the rows: -2^31..2^31
+-- a value in the rows, a low and a high: -2^31..2^31
 unfoldable pub row-value-limits : Limits
 row-value-limits = ± most-place
 
@@ -89,11 +93,18 @@ queryWithin n query =
     && within depth-limits (query .need)
     && within run-limits (pos (query .run))
 
--- the values and the radii of row j are in their ranges, as they stand in the buffer; its degree, its lows and its highs are not looked at
+-- the n numbers of part p of row j are in the limits, as they stand in the buffer: there a radius may have a minus, of which `rowsIn` takes the magnitude
+unfoldable pub partWithin : Limits → ℕ → List ℤ → ℕ → ℕ → Bool
+partWithin limits n rows j p = every n (λ i. within limits (getD rows (partPlace n j p i) (pos 0)))
+
+-- the values, the radii, the lows and the highs of row j are in their ranges, whether they count or not; its degree is not looked at, nor whether a low is
+-- above its high
 unfoldable pub rowWithin : ℕ → List ℤ → ℕ → Bool
 rowWithin n rows j =
-    every n (λ i. within row-value-limits (getD rows (partPlace n j values-part i) (pos 0)))
-    && every n (λ i. within row-radius-limits (getD rows (partPlace n j radii-part i) (pos 0)))
+    partWithin row-value-limits n rows j values-part
+    && partWithin row-radius-limits n rows j radii-part
+    && partWithin row-value-limits n rows j lows-part
+    && partWithin row-value-limits n rows j highs-part
 
 -- n and the count of rows, 3; the places that they need, 5; the query, 9; the rows, all of them, 10
 unfoldable pub clearVerdict : ℕ → ℕ → List ℤ → Query → Verdict

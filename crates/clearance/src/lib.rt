@@ -1,5 +1,6 @@
-// Document 02, CR 2: the first run of rows in which a ship has water enough for certain. A clearance is a base and a weighed
-// sum of the quantities; a row is certain where it is at least the need at every state within the row's radii.
+// Document 02, CR 2 and CR 6: the first run of rows in which a ship has water enough for certain, all the way. A clearance is a
+// base and a weighed sum of the quantities; a row is certain where it is at least the need with each quantity at its low, or at
+// its high where its weight is negative.
 ghost use mathlib.Core.Path.{_≡_};
 ghost use lib.ListN.{length};
 ghost use Rattle.model.specs.Sheet.{result, refusedStep, Gives};

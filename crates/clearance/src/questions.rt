@@ -1,11 +1,12 @@
 // What is asked before the search: is the query in its ranges, and are the rows?
 ghost use mathlib.Core.Path.{_≡_};
-ghost use Prim.Native.Nat.{_+_, _≤_};
+ghost use Prim.Native.Nat.{_+_, _≤_, _<_};
 ghost use lib.IntN.{pos};
 ghost use lib.ListN.{length, getD};
 ghost use Rattle.model.specs.Range.{every};
 ghost use Rattle.model.specs.Sheet as sheet;
 ghost use Rattle.model.specs.Sheet.{«most-quantities»};
+ghost use Rattle.model.specs.Rows as layout;
 ghost use Rattle.rows.specs.Room.{HasRow, HasRows};
 ghost use Rattle.clearance.specs.Clearance as clearance;
 use crate::Query;
@@ -14,6 +15,8 @@ use limits::within;
 use model::Limits;
 use model::MOST;
 use model::MOST_STEPS;
+use rows::HIGHS;
+use rows::LOWS;
 use rows::RADII;
 use rows::VALUES;
 use rows::part_place;
@@ -42,7 +45,7 @@ const RUN: Limits = Limits {
 // The largest number in the rows, without its sign: 2^31.
 const MOST_PLACE: i64 = 2147483648;
 
-// A value in the rows: -2^31..2^31.
+// A value in the rows, a low and a high: -2^31..2^31.
 const VALUE: Limits = Limits {
     low: -MOST_PLACE,
     high: MOST_PLACE,
@@ -87,15 +90,30 @@ pub fn query_within(n: usize, query: Query) -> bool
     natural_within(RUN, query.run as u64)
 }
 
-// Whether the values and the radii of a row are in their ranges.
+// Whether the n numbers of a part of a row lie in the limits.
+fn part_within(rows: &[i64], n: usize, row: usize, part: usize, limits: Limits) -> bool
+    requires { ⌜ HasRow n row (now rows) ⌝ }
+    requires { ⌜ part < layout.parts ⌝ }
+    ensures { λ r. ⌜ r ≡ clearance.partWithin limits n (now (rows .entry)) row part ⌝ }
+{
+    all_within(rows, part_place(n, row, part, 0), n, limits)
+}
+
+// Whether the values, the radii, the lows and the highs of a row are in their ranges.
 fn row_within(rows: &[i64], n: usize, row: usize) -> bool
     requires { ⌜ HasRow n row (now rows) ⌝ }
     ensures { λ r. ⌜ r ≡ clearance.rowWithin n (now (rows .entry)) row ⌝ }
 {
-    if !all_within(rows, part_place(n, row, VALUES, 0), n, VALUE) {
+    if !part_within(rows, n, row, VALUES, VALUE) {
         return false;
     }
-    all_within(rows, part_place(n, row, RADII, 0), n, RADIUS)
+    if !part_within(rows, n, row, RADII, RADIUS) {
+        return false;
+    }
+    if !part_within(rows, n, row, LOWS, VALUE) {
+        return false;
+    }
+    part_within(rows, n, row, HIGHS, VALUE)
 }
 
 // Whether those of every counted row are.

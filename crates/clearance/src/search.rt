@@ -2,31 +2,44 @@
 ghost use mathlib.Core.Path.{_≡_};
 ghost use mathlib.Core.Bool.{cond};
 ghost use Prim.Native.Nat.{_+_, _<_, _^_};
+ghost use lib.ListN.{getD};
 ghost use Rattle.model.specs.Rows.{rowIn, rowsIn};
+ghost use Rattle.model.specs.Step.{no-span};
+ghost use Rattle.rows.specs.Room.{HasRow};
 ghost use Rattle.clearance.specs.Asked.{Weighable, Searchable};
 ghost use Rattle.clearance.specs.Clearance as clearance;
 use crate::Found;
 use crate::Query;
 use model::SCALE;
-use rounding::magnitude;
-use rows::radius_at;
-use rows::value_at;
+use rows::high_at;
+use rows::low_at;
 
-// base × s + the sum of weight × value - the sum of |weight| × radius.
+// The end of quantity i's span that a weight takes: a positive one the low, a negative one the high.
+fn end_at(rows: &[i64], n: usize, row: usize, i: usize, weight: i64) -> i64
+    requires { ⌜ HasRow n row (now rows) ⌝ }
+    requires { ⌜ i < n ⌝ }
+    ensures { λ r. ⌜ r ≡ clearance.endFor weight (getD (rowIn n (now (rows .entry)) row .spans) i no-span) ⌝ }
+{
+    if weight < 0 {
+        high_at(rows, n, row, i)
+    } else {
+        low_at(rows, n, row, i)
+    }
+}
+
+// base × s + the sum of weight × the end that it takes.
 fn assured(rows: &[i64], n: usize, row: usize, query: Query) -> i64
     requires { ⌜ Weighable n row (now rows) query ⌝ }
     ensures { λ r. ⌜ r ≡ clearance.assured query (rowIn n (now (rows .entry)) row) ⌝ }
 {
-    let mut values: i64 = 0;
-    let mut radii: u64 = 0;
+    let mut sum = query.base * SCALE as i64;
     let mut i = 0;
     while i < n {
         let weight = query.weights[i];
-        values += weight * value_at(rows, n, row, i);
-        radii += magnitude(weight) * radius_at(rows, n, row, i);
+        sum += weight * end_at(rows, n, row, i, weight);
         i += 1;
     }
-    query.base * SCALE as i64 + values - radii as i64
+    sum
 }
 
 // Whether a row is certain: that is at least need × s.

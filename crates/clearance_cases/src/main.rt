@@ -1,6 +1,6 @@
 // Runs `run_and_find` of passages given as numbers: case A of document 01 and what it becomes with more steps, back, with
-// nine quantities, with too few places and with queries that are refused. Each line is what came of one; the file `stdout`
-// beside src/ has what they must be.
+// nine quantities, with too few places and with queries that are refused; and a quantity that rises through three rows.
+// Each line is what came of one; the file `stdout` beside src/ has what they must be.
 use clearance::Found;
 use clearance::Query;
 use clearance::run_and_find;
@@ -14,17 +14,11 @@ use model::Start;
 use model::Term;
 use model::Terms;
 
-// x' = x × x from one whole, with so many quantities and steps and this step.
-fn square(n: usize, steps: usize, step: i64) -> Sheet {
+// One term in the rate of the first of so many quantities, from one whole, over so many steps.
+fn sheet(n: usize, steps: usize, step: i64, term: Term) -> Sheet {
     let quantity = Quantity {
         start: Start::Reading(16777216),
         radius: 0,
-    };
-    let term = Term {
-        to: 1,
-        coef: 16777216,
-        first: 1,
-        second: 1,
     };
     Sheet {
         head: Head {
@@ -42,6 +36,28 @@ fn square(n: usize, steps: usize, step: i64) -> Sheet {
     }
 }
 
+// x' = x × x.
+fn square(n: usize, steps: usize, step: i64) -> Sheet {
+    let term = Term {
+        to: 1,
+        coef: 16777216,
+        first: 1,
+        second: 1,
+    };
+    sheet(n, steps, step, term)
+}
+
+// x' = 1.
+fn rising(steps: usize, step: i64) -> Sheet {
+    let term = Term {
+        to: 1,
+        coef: 16777216,
+        first: 0,
+        second: 0,
+    };
+    sheet(1, steps, step, term)
+}
+
 // A number behind some words.
 fn print(words: &[u8], number: u64) {
     io::write_all(STDOUT_FILENO, words);
@@ -57,10 +73,10 @@ fn print_found(found: Found) {
     }
 }
 
-// Runs a sheet with nine places lent, and asks for at least `need` units of its first quantity.
-fn ask(sheet: Sheet, need: i64, run: usize) {
+// Runs a sheet with places for three rows lent, and asks for at least `need` units of a weight times its first quantity.
+fn ask(sheet: Sheet, weight: i64, need: i64, run: usize) {
     let mut weights = [0i64; MOST_QUANTITIES];
-    weights[0] = 16777216;
+    weights[0] = weight;
     let query = Query {
         weights,
         base: 0,
@@ -78,20 +94,32 @@ fn ask(sheet: Sheet, need: i64, run: usize) {
 }
 
 fn main() {
-    // One row, 22020096 within 349534: at the need, and a unit short of it; a run of two; a run of none.
-    ask(square(1, 1, 4194304), 21670562, 1);
-    ask(square(1, 1, 4194304), 21670563, 1);
-    ask(square(1, 1, 4194304), 21670562, 2);
-    ask(square(1, 1, 4194304), 21670562, 0);
+    // One row, 22020096 within 349534, and from 11184802 to 22369630 all the way: at the need, and a unit short of it; a run of
+    // two; a run of none.
+    ask(square(1, 1, 4194304), 16777216, 11184802, 1);
+    ask(square(1, 1, 4194304), 16777216, 11184803, 1);
+    ask(square(1, 1, 4194304), 16777216, 11184802, 2);
+    ask(square(1, 1, 4194304), 16777216, 11184802, 0);
+    // Certain at the end of the step, 22020096 - 349534, and not all the way.
+    ask(square(1, 1, 4194304), 16777216, 21670562, 1);
+    // No more than the high, and a unit less.
+    ask(square(1, 1, 4194304), -16777216, -22369630, 1);
+    ask(square(1, 1, 4194304), -16777216, -22369629, 1);
     // The same row, and step 2 refused.
-    ask(square(1, 3, 4194304), 21670562, 1);
-    ask(square(1, 3, 4194304), 21670563, 1);
-    // Back: 13631488 within 349534.
-    ask(square(1, 1, -4194304), 13281954, 1);
-    ask(square(1, 1, -4194304), 13281955, 1);
+    ask(square(1, 3, 4194304), 16777216, 11184802, 1);
+    ask(square(1, 3, 4194304), 16777216, 11184803, 1);
+    // Back: 13631488 within 349534, and between the same ends.
+    ask(square(1, 1, -4194304), 16777216, 11184802, 1);
+    ask(square(1, 1, -4194304), 16777216, 11184803, 1);
+    // Three rows, from 15658731, 16642038 and 17629393 up: the first row, the second, the third; two in a row, three, and none.
+    ask(rising(3, 1048576), 16777216, 15658731, 3);
+    ask(rising(3, 1048576), 16777216, 16642038, 2);
+    ask(rising(3, 1048576), 16777216, 16642039, 1);
+    ask(rising(3, 1048576), 16777216, 16642038, 3);
+    ask(rising(3, 1048576), 16777216, 17629394, 1);
     // No row: a ratio past one half, too few places, no step; and n out of range, which the query has too.
-    ask(square(1, 1, 8388609), 0, 1);
-    ask(square(1, 4, 4194304), 0, 1);
-    ask(square(1, 1, 0), 0, 0);
-    ask(square(9, 1, 4194304), 0, 1);
+    ask(square(1, 1, 8388609), 16777216, 0, 1);
+    ask(square(1, 4, 4194304), 16777216, 0, 1);
+    ask(square(1, 1, 0), 16777216, 0, 0);
+    ask(square(9, 1, 4194304), 16777216, 0, 1);
 }
