@@ -1,5 +1,5 @@
 //! The first clear run: in rows as they stand in a lent buffer, the first row that opens a run of so many rows in
-//! a row, each of which is certain to clear a need.
+//! a row, each of which is certain to clear a need all through its step.
 
 use crate::rounding::SCALE;
 use crate::rows::{self, Parts};
@@ -12,7 +12,7 @@ pub const WEIGHT: RangeInclusive<i64> = -(1 << 26)..=1 << 26;
 pub const BASE: RangeInclusive<i64> = -LIMIT..=LIMIT;
 pub const NEED: RangeInclusive<i64> = -LIMIT..=LIMIT;
 pub const RUN: RangeInclusive<usize> = 1..=240;
-/// A value and a radius of a row that is looked through, whoever wrote it.
+/// A value, a low or a high, and a radius of a row that is looked through, whoever wrote it.
 pub const ROW_VALUE: RangeInclusive<i64> = -(1 << 31)..=1 << 31;
 pub const ROW_RADIUS: RangeInclusive<i64> = 0..=1 << 31;
 
@@ -89,11 +89,15 @@ fn is_in_range(n: usize, query: &Query) -> bool {
         && RUN.contains(&query.run)
 }
 
-/// Whether the values and radii of a row are in their ranges; its degree, lows and highs may be any numbers.
+/// Whether the values, radii, lows and highs of a row are in their ranges, whatever their weights; its degree may be
+/// any number, and a low may lie above its high.
 fn row_is_in_range(row: &[i64]) -> bool {
-    let Parts { values, radii, .. } = rows::parts(row);
-    values.iter().all(|value| ROW_VALUE.contains(value))
-        && radii.iter().all(|radius| ROW_RADIUS.contains(radius))
+    let parts = rows::parts(row);
+    let mut like_values = [parts.values, parts.lows, parts.highs]
+        .into_iter()
+        .flatten();
+    like_values.all(|number| ROW_VALUE.contains(number))
+        && parts.radii.iter().all(|radius| ROW_RADIUS.contains(radius))
 }
 
 /// Whether a row is certain to clear the need: at the need itself it is.
@@ -101,8 +105,20 @@ pub fn is_certain(query: &Query, row: &[i64]) -> bool {
     least_clearance(query, row) >= i128::from(query.need) * i128::from(SCALE)
 }
 
-/// base × s + the sum of weight × value - the sum of |weight| × radius.
+/// base × s + the sum of weight × low over the positive weights, and of weight × high over the negative ones.
 pub fn least_clearance(query: &Query, row: &[i64]) -> i128 {
+    let Parts { lows, highs, .. } = rows::parts(row);
+    let mut clearance = i128::from(query.base) * i128::from(SCALE);
+    for ((&weight, &low), &high) in query.weights.iter().zip(lows).zip(highs) {
+        let end = if weight > 0 { low } else { high };
+        clearance += i128::from(weight) * i128::from(end);
+    }
+    clearance
+}
+
+/// base × s + the sum of weight × value - the sum of |weight| × radius: what a row assures at its own time, the end
+/// of its step. No row is certain by it.
+pub fn least_clearance_at_end(query: &Query, row: &[i64]) -> i128 {
     let Parts { values, radii, .. } = rows::parts(row);
     let mut clearance = i128::from(query.base) * i128::from(SCALE);
     for ((&weight, &value), &radius) in query.weights.iter().zip(values).zip(radii) {

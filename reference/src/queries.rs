@@ -4,7 +4,7 @@
 
 use crate::clearance::{
     BASE, COUNT, FirstClear, NEED, Query, ROW_RADIUS, ROW_VALUE, RUN, WEIGHT, first_clear,
-    is_certain, least_clearance,
+    is_certain, least_clearance, least_clearance_at_end,
 };
 use crate::generate::{calm, written};
 use crate::random::Random;
@@ -12,6 +12,16 @@ use crate::rounding::SCALE;
 use crate::rows;
 use crate::sheet::{LIMIT, MOST_QUANTITIES};
 use std::ops::RangeInclusive;
+
+/// The ranges of a row's parts, in their order: values, radii, lows, highs.
+const PART_RANGES: [RangeInclusive<i64>; 4] = [ROW_VALUE, ROW_RADIUS, ROW_VALUE, ROW_VALUE];
+const LOW: usize = 2;
+const HIGH: usize = 3;
+
+/// The place in a row of n quantities of one quantity's number in a part.
+fn place_of(n: usize, part: usize, quantity: usize) -> usize {
+    1 + part * n + quantity
+}
 
 /// A buffer, what it is said to hold, and what is asked of it.
 #[derive(Clone, Debug, PartialEq, Eq)]
@@ -48,7 +58,7 @@ impl QueryTrials {
     }
 
     /// Rows that a passage wrote. Running it takes longer than asking, so each serves for some queries.
-    fn of_a_passage(&mut self) -> QueryTrial {
+    pub fn of_a_passage(&mut self) -> QueryTrial {
         const QUERIES: usize = 32;
         let random = &mut self.random;
         if self.left == 0 {
@@ -128,8 +138,8 @@ fn turn_to_rise(weights: &mut [i64], rows: &[Vec<i64>]) {
     }
 }
 
-/// A query of rows in a buffer just long enough: the need is about what some row clears, the run about as long as
-/// the longest that there is.
+/// A query of rows in a buffer just long enough: the need is about what some row clears, all through its step or now
+/// and then at its end, and the run about as long as the longest that there is.
 fn asked(
     random: &mut Random,
     n: usize,
@@ -144,7 +154,12 @@ fn asked(
     };
     if !rows.is_empty() {
         let row = &rows[random.below(rows.len())];
-        let units = least_clearance(&query, row).div_euclid(i128::from(SCALE)) as i64;
+        let (through, at_end) = (
+            least_clearance(&query, row),
+            least_clearance_at_end(&query, row),
+        );
+        let clearance = random.of(&[through, through, through, at_end]);
+        let units = clearance.div_euclid(i128::from(SCALE)) as i64;
         let units = units + random.of(&[0, 0, 0, 1, 1, -1]);
         (query.base, query.need) = apart(random, units);
     }
@@ -199,7 +214,8 @@ fn spread_size(random: &mut Random, range: RangeInclusive<usize>) -> usize {
 }
 
 /// Rows that are certain, or not, by as much as is wanted: in stretches about as long as the run, by nothing or by
-/// one part in s of a unit. One quantity with the weight 1 or -1 makes up for what the others bring.
+/// one part in s of a unit. One quantity makes up for what the others bring: by its low where it has the weight 1, by its
+/// high where it has the weight -1.
 fn to_measure(random: &mut Random) -> QueryTrial {
     let n = random.even(1..=8) as usize;
     let one = random.below(n);
@@ -220,11 +236,13 @@ fn to_measure(random: &mut Random) -> QueryTrial {
         run,
     };
     let margins = margins(random, run);
+    let part = if weights[one] > 0 { LOW } else { HIGH };
     let rows = margins.iter().map(|margin| {
         let mut row = small_row(random, n);
-        row[1 + one] = 0;
+        let end = place_of(n, part, one);
+        row[end] = 0;
         let missing = margin + need * SCALE - least_clearance(&query, &row) as i64;
-        row[1 + one] = weights[one] * missing;
+        row[end] = weights[one] * missing;
         row
     });
     let rows: Vec<Vec<i64>> = rows.collect();
@@ -261,19 +279,15 @@ fn margins(random: &mut Random, run: usize) -> Vec<i64> {
     margins
 }
 
-/// A row of numbers that are small enough for one of the weight 1 to make up for the others.
+/// A row whose lows and highs are small enough for one of the weight 1 to make up for the others, and have nothing to do
+/// with each other or with the values and radii.
 fn small_row(random: &mut Random, n: usize) -> Vec<i64> {
     const MOST: i64 = 1 << 18;
     let mut row = vec![random.even(0..=28)];
-    row.extend((0..n).map(|_| random.even(-MOST..=MOST)));
-    row.extend((0..n).map(|_| random.even(0..=MOST)));
-    row.extend(lows_and_highs(random, n));
+    row.extend((0..n).map(|_| random.spread(ROW_VALUE)));
+    row.extend((0..n).map(|_| random.spread(ROW_RADIUS)));
+    row.extend((0..2 * n).map(|_| random.even(-MOST..=MOST)));
     row
-}
-
-/// The lows and the highs of a row, which a search does not look at: any numbers.
-fn lows_and_highs(random: &mut Random, n: usize) -> Vec<i64> {
-    (0..2 * n).map(|_| any_number(random)).collect()
 }
 
 /// Every number over its whole range.
@@ -306,8 +320,8 @@ fn at_the_ends(random: &mut Random) -> QueryTrial {
     trial
 }
 
-/// Some rows, now and then as many as there may be, of any degree; the values and radii are chosen from their
-/// ranges.
+/// Some rows, now and then as many as there may be, of any degree; every other number is chosen from its range, so
+/// that a low has nothing to do with its high, nor with a value and a radius.
 fn some_rows(
     random: &mut Random,
     n: usize,
@@ -318,9 +332,9 @@ fn some_rows(
     let count = random.of(&[few, few, few, some]);
     let row = |_| {
         let mut row = vec![any_number(random)];
-        row.extend((0..n).map(|_| choose(random, ROW_VALUE)));
-        row.extend((0..n).map(|_| choose(random, ROW_RADIUS)));
-        row.extend(lows_and_highs(random, n));
+        for range in PART_RANGES {
+            row.extend((0..n).map(|_| choose(random, range.clone())));
+        }
         row
     };
     (0..count).map(row).collect()
@@ -332,7 +346,7 @@ fn alter(random: &mut Random, trial: &mut QueryTrial) {
     let QueryTrial {
         n, count, query, ..
     } = trial;
-    match random.below(16) {
+    match random.below(20) {
         0 => *n = random.of(&[0, 9, 9, 10, usize::MAX, 1 << 63, (1 << 32) + 1]),
         1 => {
             *count = random.of(&[
@@ -350,14 +364,13 @@ fn alter(random: &mut Random, trial: &mut QueryTrial) {
         6 => query.base = about_an_end(random, BASE),
         7 => query.need = about_an_end(random, NEED),
         8 => query.run = random.of(&[0, 0, 240, 241, 241, (1 << 32) + 1, usize::MAX]),
-        9 | 10 => alter_row(random, trial, |random, n| {
-            (1 + random.below(n), about_an_end(random, ROW_VALUE))
+        9..=15 => alter_part(random, trial),
+        16 => alter_row(random, trial, |random, _, row| row[0] = any_number(random)),
+        17 => alter_row(random, trial, |random, n, row| {
+            let quantity = random.below(n);
+            row.swap(place_of(n, LOW, quantity), place_of(n, HIGH, quantity));
         }),
-        11 | 12 => alter_row(random, trial, |random, n| {
-            (1 + n + random.below(n), about_an_end(random, ROW_RADIUS))
-        }),
-        13 => alter_row(random, trial, |random, _| (0, any_number(random))),
-        14 => spoil_past_the_count(random, trial),
+        18 => spoil_past_the_count(random, trial),
         _ => *count = 0,
     }
 }
@@ -390,12 +403,25 @@ fn shorten(random: &mut Random, trial: &mut QueryTrial) {
     trial.rows.truncate(random.of(&[needed, less, less, any]));
 }
 
-/// Puts a number into some row, often into the last or the first one: `choose` gives its place in the row, and
-/// the number.
+/// Puts a value, a radius, a low or a high about an end of its range into some row; every third time of a quantity that
+/// has the weight 0.
+fn alter_part(random: &mut Random, trial: &mut QueryTrial) {
+    let quantity = random.below(MOST_QUANTITIES);
+    if random.once_in(3) {
+        trial.query.weights[quantity % trial.n.clamp(1, MOST_QUANTITIES)] = 0;
+    }
+    alter_row(random, trial, |random, n, row| {
+        let part = random.below(PART_RANGES.len());
+        let number = about_an_end(random, PART_RANGES[part].clone());
+        row[place_of(n, part, quantity % n)] = number;
+    });
+}
+
+/// Alters some row, often the last or the first one, if it is there.
 fn alter_row(
     random: &mut Random,
     trial: &mut QueryTrial,
-    choose: impl Fn(&mut Random, usize) -> (usize, i64),
+    alter: impl Fn(&mut Random, usize, &mut [i64]),
 ) {
     match places(trial) {
         Some(1..) => {}
@@ -403,9 +429,9 @@ fn alter_row(
     }
     let any = random.below(trial.count);
     let row = random.of(&[trial.count - 1, trial.count - 1, 0, any, any]);
-    let (place, number) = choose(random, trial.n);
-    if let Some(place) = trial.rows.get_mut(row * rows::width(trial.n) + place) {
-        *place = number;
+    let mut rows = trial.rows.chunks_exact_mut(rows::width(trial.n));
+    if let Some(row) = rows.nth(row) {
+        alter(random, trial.n, row);
     }
 }
 

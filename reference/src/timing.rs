@@ -63,11 +63,12 @@ pub fn search_side_by_side(trial: &QueryTrial, rounds: usize) -> (Times, Option<
 pub fn longest_searches() -> [QueryTrial; 2] {
     const VALUE: i64 = SCALE;
     const RADIUS: i64 = SCALE / 1000;
+    const REACH: i64 = SCALE / 100;
     let n = MOST_QUANTITIES;
     let count = *COUNT.end();
-    let parts = [VALUE, RADIUS, VALUE - RADIUS, VALUE + RADIUS];
+    let parts = [VALUE, RADIUS, VALUE - REACH, VALUE + REACH];
     let row = [vec![0], parts.map(|number| vec![number; n]).concat()].concat();
-    let surely = n as i64 * (VALUE - RADIUS);
+    let surely = n as i64 * (VALUE - REACH);
     [(surely + 1, 1), (surely, count)].map(|(need, run)| QueryTrial {
         n,
         count,

@@ -2,19 +2,26 @@
 //! their order, and what the gallery's rows say. Where the proved planner is linked, it is held to every case too.
 
 use reference::clearance::FirstClear::{NoRow, Refused, Row};
-use reference::clearance::{FirstClear, Query};
+use reference::clearance::{FirstClear, Query, is_certain, least_clearance_at_end};
 use reference::compare::{LINKED, both_first_clear};
 use reference::passage;
 use reference::queries::QueryTrial;
 use reference::rounding::SCALE;
+use reference::rows;
 use reference::sheet::Refusal::{self, BufferTooShort, OutOfRange, QueryOutOfRange, RowOutOfRange};
-use reference::sheet::read;
+use reference::sheet::{Sheet, read};
 use reference::timing::longest_searches;
 
 /// The ends of the ranges.
 const MOST_WEIGHT: i64 = 67108864;
 const MOST_NEED: i64 = 536870912;
 const MOST_VALUE: i64 = 1 << 31;
+
+/// The parts of a row of one quantity, by their places.
+const VALUE: usize = 1;
+const RADIUS: usize = 2;
+const LOW: usize = 3;
+const HIGH: usize = 4;
 
 /// One quantity as it is, against a need: a run of one row.
 const AS_IT_IS: Query = Query {
@@ -57,36 +64,39 @@ fn the_proved_planner_is_linked_where_its_library_is_named() {
     assert_eq!(LINKED, std::env::var_os("PLANNER_LIBRARY").is_some());
 }
 
-/// Rows of one quantity, each a value and a radius, of degree 7, with what the radius leaves as low and high.
-fn rows_of(numbers: &[(i64, i64)]) -> Vec<i64> {
-    let rows = numbers.iter().map(|&(value, radius)| {
-        let (low, high) = (value.wrapping_sub(radius), value.wrapping_add(radius));
-        [7, value, radius, low, high]
-    });
-    rows.flatten().collect()
+/// A row of one quantity, of degree 7, with this low and high; its value and radius would be certain of nothing.
+fn row_of(low: i64, high: i64) -> [i64; 5] {
+    [7, 0, MOST_VALUE, low, high]
 }
 
-/// What is asked of all rows of one quantity.
-fn of_one(numbers: &[(i64, i64)], query: &Query) -> FirstClear {
-    first_clear(1, numbers.len(), &rows_of(numbers), query)
+/// What is asked of rows of one quantity, each with its low and its high.
+fn of_one(ends: &[(i64, i64)], query: &Query) -> FirstClear {
+    let rows: Vec<[i64; 5]> = ends.iter().map(|&(low, high)| row_of(low, high)).collect();
+    first_clear(1, rows.len(), &rows.concat(), query)
+}
+
+/// The same with lows alone, where the weight is positive; the highs are the greatest.
+fn of_lows(lows: &[i64], query: &Query) -> FirstClear {
+    let ends: Vec<(i64, i64)> = lows.iter().map(|&low| (low, MOST_VALUE)).collect();
+    of_one(&ends, query)
 }
 
 /// Rows of one quantity that are certain at the need 0 where a letter is `y`, and not where it is `n`.
 fn of_letters(letters: &str, run: usize) -> FirstClear {
-    let numbers: Vec<(i64, i64)> = letters
+    let lows: Vec<i64> = letters
         .bytes()
-        .map(|letter| if letter == b'y' { (3, 3) } else { (2, 3) })
+        .map(|letter| if letter == b'y' { 0 } else { -1 })
         .collect();
-    of_one(&numbers, &with_run(run))
+    of_lows(&lows, &with_run(run))
 }
 
 #[test]
 fn a_row_is_certain_at_the_need_itself() {
-    let rows = [(5, 1), (6, 1), (7, 1)];
-    assert_eq!(of_one(&rows, &with_need(4)), Row(1));
-    assert_eq!(of_one(&rows, &with_need(5)), Row(2));
-    assert_eq!(of_one(&rows, &with_need(6)), Row(3));
-    assert_eq!(of_one(&rows, &with_need(7)), NoRow);
+    let lows = [4, 5, 6];
+    assert_eq!(of_lows(&lows, &with_need(4)), Row(1));
+    assert_eq!(of_lows(&lows, &with_need(5)), Row(2));
+    assert_eq!(of_lows(&lows, &with_need(6)), Row(3));
+    assert_eq!(of_lows(&lows, &with_need(7)), NoRow);
 }
 
 #[test]
@@ -96,11 +106,11 @@ fn the_base_counts_with_the_sum() {
         need,
         ..AS_IT_IS
     };
-    let rows = [(5, 1), (6, 1)];
-    assert_eq!(of_one(&rows, &with_base(10, 15)), Row(2));
-    assert_eq!(of_one(&rows, &with_base(10, 16)), NoRow);
-    assert_eq!(of_one(&rows, &with_base(-10, -5)), Row(2));
-    assert_eq!(of_one(&rows, &with_base(-10, -4)), NoRow);
+    let lows = [4, 5];
+    assert_eq!(of_lows(&lows, &with_base(10, 15)), Row(2));
+    assert_eq!(of_lows(&lows, &with_base(10, 16)), NoRow);
+    assert_eq!(of_lows(&lows, &with_base(-10, -5)), Row(2));
+    assert_eq!(of_lows(&lows, &with_base(-10, -4)), NoRow);
 }
 
 /// The sum is not brought to units before it is compared: a part of a unit decides.
@@ -110,44 +120,119 @@ fn the_need_is_met_to_a_part_of_a_unit() {
         need,
         ..with_weights(&[weight])
     };
-    assert_eq!(of_one(&[(SCALE, 0)], &with(1, 1)), Row(1));
-    assert_eq!(of_one(&[(SCALE - 1, 0)], &with(1, 1)), NoRow);
-    assert_eq!(of_one(&[(SCALE + 1, 1)], &with(1, 1)), Row(1));
-    assert_eq!(of_one(&[(SCALE, 1)], &with(1, 1)), NoRow);
-    assert_eq!(of_one(&[(-SCALE, 0)], &with(1, -1)), Row(1));
-    assert_eq!(of_one(&[(-SCALE - 1, 0)], &with(1, -1)), NoRow);
-    assert_eq!(of_one(&[(-1, 0)], &with(1, 0)), NoRow);
-    assert_eq!(of_one(&[(SCALE, 0)], &with(-1, -1)), Row(1));
-    assert_eq!(of_one(&[(SCALE + 1, 0)], &with(-1, -1)), NoRow);
-    assert_eq!(of_one(&[(3, 0)], &with(SCALE / 2, 1)), Row(1));
-    assert_eq!(of_one(&[(3, 0)], &with(SCALE / 2, 2)), NoRow);
+    assert_eq!(of_lows(&[SCALE], &with(1, 1)), Row(1));
+    assert_eq!(of_lows(&[SCALE - 1], &with(1, 1)), NoRow);
+    assert_eq!(of_lows(&[-SCALE], &with(1, -1)), Row(1));
+    assert_eq!(of_lows(&[-SCALE - 1], &with(1, -1)), NoRow);
+    assert_eq!(of_lows(&[-1], &with(1, 0)), NoRow);
+    assert_eq!(of_one(&[(0, SCALE)], &with(-1, -1)), Row(1));
+    assert_eq!(of_one(&[(0, SCALE + 1)], &with(-1, -1)), NoRow);
+    assert_eq!(of_one(&[(0, 1)], &with(-1, 0)), NoRow);
+    assert_eq!(of_lows(&[3], &with(SCALE / 2, 1)), Row(1));
+    assert_eq!(of_lows(&[3], &with(SCALE / 2, 2)), NoRow);
 }
 
-/// A radius takes away from the sum whatever the weight's sign.
 #[test]
-fn a_negative_weight_takes_its_radius_away_too() {
+fn a_positive_weight_takes_the_low() {
+    for high in [-MOST_VALUE, 7, MOST_VALUE] {
+        assert_eq!(of_one(&[(7, high)], &with_need(7)), Row(1), "{high}");
+        assert_eq!(of_one(&[(7, high)], &with_need(8)), NoRow, "{high}");
+    }
+}
+
+#[test]
+fn a_negative_weight_takes_the_high() {
     let with = |need| Query {
         need,
         ..with_weights(&[-SCALE])
     };
-    assert_eq!(of_one(&[(-10, 3)], &with(7)), Row(1));
-    assert_eq!(of_one(&[(-10, 3)], &with(8)), NoRow);
-    assert_eq!(of_one(&[(10, 3)], &with(-13)), Row(1));
-    assert_eq!(of_one(&[(10, 3)], &with(-12)), NoRow);
+    for low in [-MOST_VALUE, -13, MOST_VALUE] {
+        assert_eq!(of_one(&[(low, -7)], &with(7)), Row(1), "{low}");
+        assert_eq!(of_one(&[(low, -7)], &with(8)), NoRow, "{low}");
+        assert_eq!(of_one(&[(low, 13)], &with(-13)), Row(1), "{low}");
+        assert_eq!(of_one(&[(low, 13)], &with(-12)), NoRow, "{low}");
+    }
 }
 
-/// Twice the first quantity less the second: the values stand before the radii in a row.
+#[test]
+fn a_weight_of_0_takes_neither() {
+    let with = |need| Query {
+        need,
+        ..with_weights(&[0, SCALE])
+    };
+    for end in [-MOST_VALUE, 0, MOST_VALUE] {
+        let row = [7, 0, 0, 0, 0, end, 5, -end, 9];
+        assert_eq!(first_clear(2, 1, &row, &with(5)), Row(1), "{end}");
+        assert_eq!(first_clear(2, 1, &row, &with(6)), NoRow, "{end}");
+    }
+}
+
+/// Whatever they are, if they are in their ranges.
+#[test]
+fn values_and_radii_do_not_count() {
+    for value in [-MOST_VALUE, 0, 5, MOST_VALUE] {
+        for radius in [0, 1, MOST_VALUE] {
+            let row = [7, value, radius, 4, 6];
+            let asked = |query| first_clear(1, 1, &row, &query);
+            let downward = |need| Query {
+                need,
+                ..with_weights(&[-SCALE])
+            };
+            assert_eq!(asked(with_need(4)), Row(1), "{value} {radius}");
+            assert_eq!(asked(with_need(5)), NoRow, "{value} {radius}");
+            assert_eq!(asked(downward(-6)), Row(1), "{value} {radius}");
+            assert_eq!(asked(downward(-5)), NoRow, "{value} {radius}");
+        }
+    }
+}
+
+/// At its end the quantity is 9 to 11, on the way there 3 to 12.
+#[test]
+fn a_row_that_clears_at_its_end_is_not_certain_for_that() {
+    let row = [7, 10, 1, 3, 12];
+    for (weight, need_at_end, need) in [(SCALE, 9, 3), (-SCALE, -11, -12)] {
+        let with = |need| Query {
+            need,
+            ..with_weights(&[weight])
+        };
+        assert!(clears_at_end(&with(need_at_end), &row));
+        assert!(!clears_at_end(&with(need_at_end + 1), &row));
+        assert_eq!(first_clear(1, 1, &row, &with(need_at_end)), NoRow);
+        assert_eq!(first_clear(1, 1, &row, &with(need + 1)), NoRow);
+        assert_eq!(first_clear(1, 1, &row, &with(need)), Row(1));
+    }
+}
+
+/// Whether a row clears the need at its own time, by value and radius.
+fn clears_at_end(query: &Query, row: &[i64]) -> bool {
+    least_clearance_at_end(query, row) >= i128::from(query.need) * i128::from(SCALE)
+}
+
+#[test]
+fn a_low_above_its_high_is_no_refusal() {
+    let rows = [(10, -10), (MOST_VALUE, -MOST_VALUE)];
+    for weight in [SCALE, -SCALE] {
+        let with = |need| Query {
+            need,
+            ..with_weights(&[weight])
+        };
+        assert_eq!(of_one(&rows, &with(10)), Row(1));
+        assert_eq!(of_one(&rows, &with(11)), Row(2));
+    }
+}
+
+/// Twice the first quantity less the second: its low and the other's high.
 #[test]
 fn every_quantity_has_its_weight() {
     let with = |need| Query {
         need,
         ..with_weights(&[2 * SCALE, -SCALE])
     };
-    let rows = [0, 100, 40, 6, 5, 94, 35, 106, 45];
-    assert_eq!(first_clear(2, 1, &rows, &with(143)), Row(1));
-    assert_eq!(first_clear(2, 1, &rows, &with(144)), NoRow);
-    let two_rows = [rows, [0, 100, 39, 6, 5, 94, 34, 106, 44]].concat();
-    assert_eq!(first_clear(2, 2, &two_rows, &with(144)), Row(2));
+    let rows = [0, 100, 40, 6, 5, 92, 33, 107, 46];
+    assert_eq!(first_clear(2, 1, &rows, &with(138)), Row(1));
+    assert_eq!(first_clear(2, 1, &rows, &with(139)), NoRow);
+    let two_rows = [rows, [0, 100, 39, 6, 5, 92, 33, 107, 45]].concat();
+    assert_eq!(first_clear(2, 2, &two_rows, &with(139)), Row(2));
 }
 
 #[test]
@@ -187,7 +272,7 @@ fn a_run_ends_with_the_last_row_at_the_latest() {
 /// Only the counted rows are there: a run does not go on past them.
 #[test]
 fn rows_past_the_count_are_not_there() {
-    let rows = rows_of(&[(1, 0); 5]);
+    let rows = [row_of(1, 1); 5].concat();
     let asked = |count, run| first_clear(1, count, &rows, &with_run(run));
     assert_eq!(asked(5, 5), Row(1));
     assert_eq!(asked(4, 5), NoRow);
@@ -245,7 +330,7 @@ fn too_few_places_are_5() {
 
 #[test]
 fn a_query_out_of_range_is_9() {
-    let rows = rows_of(&[(0, 0)]);
+    let rows = row_of(0, 0);
     let asked = |query| first_clear(1, 1, &rows, &query);
     for weight in [-MOST_WEIGHT, MOST_WEIGHT] {
         assert_eq!(asked(with_weights(&[weight])), Row(1));
@@ -294,50 +379,75 @@ fn weights_past_the_quantities_are_not_looked_at() {
     }
 }
 
+/// The ranges of a row's parts, each with its place.
+const RANGES: [(usize, i64, i64); 4] = [
+    (VALUE, -MOST_VALUE, MOST_VALUE),
+    (RADIUS, 0, MOST_VALUE),
+    (LOW, -MOST_VALUE, MOST_VALUE),
+    (HIGH, -MOST_VALUE, MOST_VALUE),
+];
+
 #[test]
 fn a_row_out_of_range_is_10() {
-    let far = with_need(-MOST_NEED);
-    for value in [-MOST_VALUE, MOST_VALUE] {
-        let answer = if value > 0 { Row(1) } else { NoRow };
-        assert_eq!(of_one(&[(value, 0)], &far), answer);
-        let beyond = value + value.signum();
-        assert_eq!(of_one(&[(beyond, 0)], &far), refused(RowOutOfRange));
-    }
-    assert_eq!(of_one(&[(0, 0)], &far), Row(1));
-    assert_eq!(of_one(&[(0, -1)], &far), refused(RowOutOfRange));
-    assert_eq!(of_one(&[(0, MOST_VALUE)], &far), NoRow);
-    assert_eq!(of_one(&[(MOST_VALUE, MOST_VALUE)], &far), Row(1));
-    let beyond = MOST_VALUE + 1;
-    assert_eq!(of_one(&[(0, beyond)], &far), refused(RowOutOfRange));
-    for extreme in [i64::MIN, i64::MAX] {
-        assert_eq!(of_one(&[(extreme, 0)], &far), refused(RowOutOfRange));
-        assert_eq!(of_one(&[(0, extreme)], &far), refused(RowOutOfRange));
+    for (place, least, most) in RANGES {
+        let asked = |number| {
+            let mut row = [7, 0, 0, 0, 0];
+            row[place] = number;
+            first_clear(1, 1, &row, &AS_IT_IS)
+        };
+        let at_least = if place == LOW { NoRow } else { Row(1) };
+        assert_eq!(asked(least), at_least, "{place}");
+        assert_eq!(asked(most), Row(1), "{place}");
+        for beyond in [least - 1, most + 1, i64::MIN, i64::MAX] {
+            assert_eq!(asked(beyond), refused(RowOutOfRange), "{place}: {beyond}");
+        }
     }
 }
 
-/// Whatever the weight, and wherever the row stands: also after the row that opens a run.
+/// Whatever the weights: a part that does not count is asked like one that does.
+#[test]
+fn every_part_of_every_quantity_is_asked() {
+    for weights in [[0, 0], [SCALE, 0], [0, -SCALE], [-1, 1]] {
+        let query = Query {
+            need: -MOST_NEED,
+            ..with_weights(&weights)
+        };
+        let asked = |row: [i64; 9]| first_clear(2, 1, &row, &query);
+        assert_eq!(asked([0; 9]), Row(1));
+        for (part, least, most) in RANGES {
+            for place in [2 * part - 1, 2 * part] {
+                for beyond in [least - 1, most + 1] {
+                    let mut row = [0; 9];
+                    row[place] = beyond;
+                    let answer = asked(row);
+                    assert_eq!(answer, refused(RowOutOfRange), "{weights:?} {place}");
+                }
+            }
+        }
+    }
+}
+
+/// Also after the row that opens a run.
 #[test]
 fn every_counted_row_is_asked() {
-    let last_row = |value, radius| of_one(&[(9, 0), (9, 0), (value, radius)], &AS_IT_IS);
-    assert_eq!(last_row(9, 0), Row(1));
-    assert_eq!(last_row(MOST_VALUE, 0), Row(1));
-    assert_eq!(last_row(MOST_VALUE + 1, 0), refused(RowOutOfRange));
-    assert_eq!(last_row(9, -1), refused(RowOutOfRange));
-    let weightless = with_weights(&[0, 0]);
-    let asked = |row: [i64; 9]| first_clear(2, 1, &row, &weightless);
-    assert_eq!(asked([0; 9]), Row(1));
-    for place in 1..5 {
-        let mut row = [0; 9];
-        row[place] = MOST_VALUE + 1;
-        assert_eq!(asked(row), refused(RowOutOfRange), "{place}");
+    for (place, least, most) in RANGES {
+        let last_row = |number| {
+            let mut rows = [[7, 9, 0, 9, 9]; 3];
+            rows[2][place] = number;
+            first_clear(1, 3, &rows.concat(), &AS_IT_IS)
+        };
+        assert_eq!(last_row(least), Row(1), "{place}");
+        assert_eq!(last_row(most), Row(1), "{place}");
+        assert_eq!(last_row(least - 1), refused(RowOutOfRange), "{place}");
+        assert_eq!(last_row(most + 1), refused(RowOutOfRange), "{place}");
     }
 }
 
-/// Degrees, lows, highs and all places past the count.
+/// Degrees, and all places past the count.
 #[test]
 fn what_is_not_asked() {
     for number in [i64::MIN, -5, 29, MOST_VALUE + 1, i64::MAX] {
-        let row = [number, 1, 1, number, number];
+        let row = [number, 1, 1, 0, 1];
         let past = [number; 5];
         assert_eq!(
             first_clear(1, 1, &[row, past].concat(), &AS_IT_IS),
@@ -349,7 +459,7 @@ fn what_is_not_asked() {
             Row(1),
             "{number}"
         );
-        let uncertain = [number, 0, 1, number, number];
+        let uncertain = [number, 1, 1, -1, 1];
         assert_eq!(first_clear(1, 1, &uncertain, &AS_IT_IS), NoRow, "{number}");
     }
 }
@@ -357,7 +467,7 @@ fn what_is_not_asked() {
 /// Everything is wrong at first; each question comes to decide as the ones before it are put right.
 #[test]
 fn the_refusals_come_in_their_order() {
-    let rows = [0, MOST_VALUE + 1, 0, 0, 0];
+    let rows = [0, 0, 0, 0, MOST_VALUE + 1];
     let run_0 = with_run(0);
     assert_eq!(first_clear(0, 1, &[], &run_0), refused(OutOfRange));
     assert_eq!(first_clear(1, 241, &[], &run_0), refused(OutOfRange));
@@ -396,7 +506,7 @@ fn the_answer_as_one_number() {
 /// The largest sums there can be, both ways: nothing is lost in them.
 #[test]
 fn the_ends_of_all_ranges_together() {
-    let row = |value, radius| [&[0][..], &[value; 8], &[radius; 8], &[0; 16]].concat();
+    let row = |ends: [i64; 8]| [&[0][..], &[0; 16], &ends, &ends].concat();
     let asked = |row: &[i64], weight, base, need| {
         let query = Query {
             base,
@@ -405,14 +515,21 @@ fn the_ends_of_all_ranges_together() {
         };
         first_clear(8, 1, row, &query)
     };
-    let low = row(-MOST_VALUE, MOST_VALUE);
-    let high = row(MOST_VALUE, 0);
+    let low = row([-MOST_VALUE; 8]);
+    let high = row([MOST_VALUE; 8]);
     assert_eq!(asked(&low, MOST_WEIGHT, -MOST_NEED, MOST_NEED), NoRow);
     assert_eq!(asked(&low, MOST_WEIGHT, MOST_NEED, -MOST_NEED), NoRow);
     assert_eq!(asked(&high, MOST_WEIGHT, -MOST_NEED, MOST_NEED), Row(1));
     assert_eq!(asked(&high, -MOST_WEIGHT, MOST_NEED, -MOST_NEED), NoRow);
-    assert_eq!(asked(&low, -MOST_WEIGHT, MOST_NEED, MOST_NEED), Row(1));
-    assert_eq!(asked(&low, -MOST_WEIGHT, MOST_NEED - 1, MOST_NEED), NoRow);
+    assert_eq!(asked(&low, -MOST_WEIGHT, -MOST_NEED, MOST_NEED), Row(1));
+    let mut ends = [MOST_VALUE; 8];
+    ends[4..].fill(-MOST_VALUE);
+    let cancelling = row(ends);
+    for weight in [-MOST_WEIGHT, MOST_WEIGHT] {
+        let asked = |base| asked(&cancelling, weight, base, MOST_NEED);
+        assert_eq!(asked(MOST_NEED), Row(1));
+        assert_eq!(asked(MOST_NEED - 1), NoRow);
+    }
 }
 
 /// For one row where none is certain, and for all rows where all are.
@@ -422,69 +539,146 @@ fn the_timed_searches_come_to_the_last_row() {
     assert_eq!(answers, [Ok(NoRow), Ok(Row(1))]);
 }
 
-/// The rows of a gallery sheet, asked for metres (or metres a second) with a weight in wholes for each of some
-/// quantities.
-fn gallery(sheet: &[u8], weights: &[(usize, i64)], base: i64, need: i64, run: usize) -> FirstClear {
-    let sheet = read(sheet).unwrap();
-    let mut rows = vec![0; sheet.places()];
-    passage::run(&sheet, &mut rows).unwrap();
-    let mut query = Query {
-        weights: [0; 8],
-        base: base * SCALE,
-        need: need * SCALE,
-        run,
-    };
-    for &(quantity, wholes) in weights {
-        query.weights[quantity - 1] = wholes * SCALE;
-    }
-    first_clear(sheet.starts.len(), sheet.steps as usize, &rows, &query)
+/// The rows of a gallery sheet and a query of them.
+struct Gallery {
+    n: usize,
+    rows: Vec<i64>,
+    query: Query,
 }
 
-/// The value passes one metre at row 25, the value less the radius at row 28.
+impl Gallery {
+    /// Asks for metres (or metres a second) with a weight in wholes for each of some quantities.
+    fn ask(sheet: &[u8], weights: &[(usize, i64)], base: i64, need: i64) -> Self {
+        Self::ask_of(&read(sheet).unwrap(), weights, base, need)
+    }
+
+    fn ask_of(sheet: &Sheet, weights: &[(usize, i64)], base: i64, need: i64) -> Self {
+        let mut rows = vec![0; sheet.places()];
+        passage::run(sheet, &mut rows).unwrap();
+        let mut query = Query {
+            weights: [0; 8],
+            base: base * SCALE,
+            need: need * SCALE,
+            run: 1,
+        };
+        for &(quantity, wholes) in weights {
+            query.weights[quantity - 1] = wholes * SCALE;
+        }
+        let n = sheet.starts.len();
+        Gallery { n, rows, query }
+    }
+
+    fn rows(&self) -> impl Iterator<Item = &[i64]> {
+        self.rows.chunks_exact(rows::width(self.n))
+    }
+
+    /// The first of so many certain rows in a row.
+    fn first(&self, run: usize) -> FirstClear {
+        let query = Query {
+            run,
+            ..self.query.clone()
+        };
+        first_clear(self.n, self.rows().count(), &self.rows, &query)
+    }
+
+    /// The rows that clear the need at their end, but are not certain to do so all through their step.
+    fn clear_at_end_alone(&self) -> Vec<usize> {
+        let rows = self.rows().zip(1..);
+        let query = &self.query;
+        rows.filter(|(row, _)| clears_at_end(query, row) && !is_certain(query, row))
+            .map(|(_, number)| number)
+            .collect()
+    }
+}
+
+/// The value passes one metre at row 25, the value less the radius at row 28, the low at row 30.
 #[test]
 fn approach_over_sill() {
     let sheet = include_bytes!("../../sheets/approach-over-sill.sheet");
-    let clearance = |base, need, run| gallery(sheet, &[(5, 1)], base, need, run);
-    assert_eq!(clearance(0, 1, 1), Row(28));
-    assert_eq!(clearance(0, 1, 3), Row(28));
-    assert_eq!(clearance(0, 1, 4), NoRow);
-    assert_eq!(clearance(0, 2, 1), NoRow);
-    assert_eq!(clearance(1, 2, 3), Row(28));
+    let clearance = |base, need| Gallery::ask(sheet, &[(5, 1)], base, need);
+    assert_eq!(clearance(0, 1).first(1), Row(30));
+    assert_eq!(clearance(0, 1).first(2), NoRow);
+    assert_eq!(clearance(0, 1).clear_at_end_alone(), [28, 29]);
+    assert_eq!(clearance(0, 2).first(1), NoRow);
+    assert_eq!(clearance(1, 2).first(1), Row(30));
+    let mut by_squat = clearance(0, 1);
+    by_squat.query.weights[3] = -SCALE / 2;
+    assert_eq!(by_squat.first(1), NoRow);
+    assert_eq!(by_squat.clear_at_end_alone(), [30]);
 }
 
-/// By the gauge the value passes two metres at row 7, the value less the radius at row 8; the two constituents over
-/// a mean level of 4 m, which are known better, are certain at row 7.
+/// In shorter steps over the same half hour the low is nearer to the water, and the metre is certain earlier.
+#[test]
+fn approach_over_sill_in_shorter_steps() {
+    let whole = read(include_bytes!("../../sheets/approach-over-sill.sheet")).unwrap();
+    for (parts, certain, at_end) in [(1, 30, 28), (2, 57, 55), (4, 112, 110), (8, 221, 219)] {
+        let sheet = Sheet {
+            steps: whole.steps * parts,
+            step: whole.step / parts,
+            ..whole.clone()
+        };
+        let metre = Gallery::ask_of(&sheet, &[(5, 1)], 0, 1);
+        assert_eq!(metre.first(1), Row(certain), "{parts}");
+        assert_eq!(metre.clear_at_end_alone(), Vec::from_iter(at_end..certain));
+    }
+}
+
+/// By the gauge the value passes two metres at row 7, the value less the radius at row 8, the low at row 10. The two
+/// constituents over a mean level of 4 m are known better, but their lows are no higher.
 #[test]
 fn tide_over_sill() {
     let sheet = include_bytes!("../../sheets/tide-over-sill.sheet");
-    let by_gauge = |need, run| gallery(sheet, &[(5, 1)], 0, need, run);
-    assert_eq!(by_gauge(2, 6), Row(8));
-    assert_eq!(by_gauge(3, 6), Row(14));
-    assert_eq!(by_gauge(6, 6), Row(31));
-    assert_eq!(by_gauge(6, 7), NoRow);
-    let by_constituents = |need, run| gallery(sheet, &[(1, 1), (3, 1)], 4, need, run);
-    assert_eq!(by_constituents(2, 6), Row(7));
-    assert_eq!(by_constituents(3, 6), Row(14));
+    let by_gauge = |need| Gallery::ask(sheet, &[(5, 1)], 0, need);
+    assert_eq!(by_gauge(2).first(6), Row(10));
+    assert_eq!(by_gauge(2).clear_at_end_alone(), [8, 9]);
+    assert_eq!(by_gauge(3).first(6), Row(16));
+    assert_eq!(by_gauge(6).first(4), Row(33));
+    assert_eq!(by_gauge(6).first(5), NoRow);
+    let by_constituents = |need| Gallery::ask(sheet, &[(1, 1), (3, 1)], 4, need);
+    assert_eq!(by_constituents(2).first(6), Row(10));
+    assert_eq!(by_constituents(2).clear_at_end_alone(), [7, 8, 9]);
+    assert_eq!(by_constituents(3).first(6), Row(16));
 }
 
-/// Rows back from the reading. 28 of them have two metres, the last seven have at most two, and row 29 is certain of
-/// neither.
+/// Rows back from the reading. The first 28 have two metres, the last five have at most two, and rows 29 to 31 are
+/// certain of neither. Going back the water falls and the low is where it falls to, so no row loses by it.
 #[test]
 fn mark_at_quay() {
     let sheet = include_bytes!("../../sheets/mark-at-quay.sheet");
-    let at_least = |run| gallery(sheet, &[(5, 1)], 0, 2, run);
-    assert_eq!(at_least(28), Row(1));
-    assert_eq!(at_least(29), NoRow);
-    let at_most = |run| gallery(sheet, &[(5, -1)], 0, -2, run);
-    assert_eq!(at_most(1), Row(30));
-    assert_eq!(at_most(7), Row(30));
-    assert_eq!(at_most(8), NoRow);
+    let at_least = Gallery::ask(sheet, &[(5, 1)], 0, 2);
+    assert_eq!(at_least.first(28), Row(1));
+    assert_eq!(at_least.first(29), NoRow);
+    assert_eq!(at_least.clear_at_end_alone(), [0; 0]);
+    let at_most = Gallery::ask(sheet, &[(5, -1)], 0, -2);
+    assert_eq!(at_most.first(1), Row(32));
+    assert_eq!(at_most.first(5), Row(32));
+    assert_eq!(at_most.first(6), NoRow);
+    assert_eq!(at_most.clear_at_end_alone(), [30, 31]);
 }
 
-/// At most 3 m/s: by the speed at row 20, by three times the slowness, which is known better, at row 17.
+/// At most 3 m/s: by the speed at row 23, by three times the slowness, which is known better, at row 19.
 #[test]
 fn ship_losing_way() {
     let sheet = include_bytes!("../../sheets/ship-losing-way.sheet");
-    assert_eq!(gallery(sheet, &[(1, -1)], 0, -3, 1), Row(20));
-    assert_eq!(gallery(sheet, &[(3, 3)], 0, 1, 1), Row(17));
+    let by_speed = Gallery::ask(sheet, &[(1, -1)], 0, -3);
+    assert_eq!(by_speed.first(1), Row(23));
+    assert_eq!(by_speed.clear_at_end_alone(), [20, 21, 22]);
+    let by_slowness = Gallery::ask(sheet, &[(3, 3)], 0, 1);
+    assert_eq!(by_slowness.first(1), Row(19));
+    assert_eq!(by_slowness.clear_at_end_alone(), [17, 18]);
+}
+
+/// Low water in the middle of the step: value less radius is 2.2 m at both its ends, and there may be 2.16 m between.
+#[test]
+fn over_low_water() {
+    let sheet = include_bytes!("../../sheets/over-low-water.sheet");
+    let with_centimetres = |need| {
+        let mut gallery = Gallery::ask(sheet, &[(3, 1)], 0, 0);
+        gallery.query.need = need * SCALE / 100;
+        gallery
+    };
+    assert_eq!(with_centimetres(219).first(1), NoRow);
+    assert_eq!(with_centimetres(219).clear_at_end_alone(), [1]);
+    assert_eq!(with_centimetres(187).first(1), Row(1));
+    assert_eq!(with_centimetres(188).first(1), NoRow);
 }

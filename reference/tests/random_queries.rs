@@ -1,11 +1,16 @@
 //! The random rows and queries reach what they are made for: every kind of answer, and both sides of every edge.
 
-use reference::clearance::{FirstClear, NEED, ROW_VALUE, WEIGHT, first_clear, least_clearance};
+use reference::clearance::{
+    FirstClear, NEED, Query, ROW_VALUE, WEIGHT, first_clear, is_certain, least_clearance,
+    least_clearance_at_end,
+};
 use reference::compare::ClearTally;
+use reference::generate::{at_the_limit_from_the_start, of_long_numbers, written};
 use reference::queries::{QueryTrial, QueryTrials};
+use reference::random::Random;
 use reference::rounding::SCALE;
 use reference::rows::{self, Parts};
-use reference::sheet::Refusal;
+use reference::sheet::{LIMIT, Refusal};
 use std::collections::BTreeMap;
 
 const COUNT: usize = 60_000;
@@ -15,15 +20,45 @@ const WEIGHT_END: i64 = *WEIGHT.end();
 const NEED_END: i64 = *NEED.end();
 const VALUE_END: i64 = *ROW_VALUE.end();
 
+/// A part of a row, and the low end of its range.
+struct Part {
+    name: &'static str,
+    of: fn(Parts) -> &[i64],
+    low: i64,
+}
+
+const PARTS: [Part; 4] = [
+    Part {
+        name: "value",
+        of: |row| row.values,
+        low: -VALUE_END,
+    },
+    Part {
+        name: "radius",
+        of: |row| row.radii,
+        low: 0,
+    },
+    Part {
+        name: "low",
+        of: |row| row.lows,
+        low: -VALUE_END,
+    },
+    Part {
+        name: "high",
+        of: |row| row.highs,
+        low: -VALUE_END,
+    },
+];
+
 /// The edges that a trial meets, by name.
 struct Edges {
-    met: BTreeMap<&'static str, usize>,
+    met: BTreeMap<String, usize>,
 }
 
 impl Edges {
     /// Counts an edge; one that is never met stands there with 0.
-    fn count(&mut self, edge: &'static str, met: bool) {
-        *self.met.entry(edge).or_default() += usize::from(met);
+    fn count(&mut self, edge: &str, met: bool) {
+        *self.met.entry(edge.to_string()).or_default() += usize::from(met);
     }
 
     fn meet(&mut self, trial: &QueryTrial) {
@@ -32,6 +67,7 @@ impl Edges {
         self.meet_query(trial, answer);
         self.meet_order(trial, answer);
         self.meet_numbers(trial, answer);
+        self.meet_ends(trial, answer);
         self.meet_runs(trial, answer);
     }
 
@@ -117,7 +153,7 @@ impl Edges {
         }
     }
 
-    /// The ends of the ranges of values and radii in the counted rows, and what is not asked.
+    /// The ends of the ranges of a row's parts in the counted rows, and what is not asked.
     fn meet_numbers(&mut self, trial: &QueryTrial, answer: FirstClear) {
         let QueryTrial { n, count, .. } = *trial;
         let is_10 = answer == FirstClear::Refused(Refusal::RowOutOfRange);
@@ -127,24 +163,25 @@ impl Edges {
         }
         let (counted, past) = trial.rows.split_at(count * rows::width(n));
         let counted: Vec<&[i64]> = counted.chunks_exact(rows::width(n)).collect();
+        for Part { name, of, low } in PARTS {
+            let numbers = || counted.iter().map(|row| of(rows::parts(row)));
+            let has = |number| numbers().any(|numbers| numbers.contains(&number));
+            let weightless = |number| {
+                let mut weighed = numbers().flat_map(|row| row.iter().zip(&trial.query.weights));
+                weighed.any(|pair| pair == (&number, &0))
+            };
+            let mut count = |edge, met| self.count(&format!("{name} {edge}"), met);
+            count("at its low end", passed && has(low));
+            count("at its high end", passed && has(VALUE_END));
+            count("below", is_10 && has(low - 1));
+            count("above", is_10 && has(VALUE_END + 1));
+            count("of 64 bits", is_10 && has(i64::MIN));
+            count("below, of weight 0", is_10 && weightless(low - 1));
+            count("above, of weight 0", is_10 && weightless(VALUE_END + 1));
+        }
         let any = |holds: &dyn Fn(Parts) -> bool| counted.iter().any(|row| holds(rows::parts(row)));
-        let value = |end| any(&|row| row.values.contains(&end));
-        let radius = |end| any(&|row| row.radii.contains(&end));
-        self.count("value at its low end", passed && value(-VALUE_END));
-        self.count("value at its high end", passed && value(VALUE_END));
-        self.count("value below", is_10 && value(-VALUE_END - 1));
-        self.count("value above", is_10 && value(VALUE_END + 1));
-        self.count("value of 64 bits", is_10 && value(i64::MIN));
-        self.count("radius 0", passed && radius(0));
-        self.count("radius at its end", passed && radius(VALUE_END));
-        self.count("radius -1", is_10 && radius(-1));
-        self.count("radius above", is_10 && radius(VALUE_END + 1));
-        self.count("radius of 64 bits", is_10 && radius(i64::MIN));
         let degree = |row: &&[i64]| !(-VALUE_END..=VALUE_END).contains(&row[0]);
         self.count("any degree", passed && counted.iter().any(degree));
-        let beyond = |numbers: &[i64]| numbers.iter().any(|number| !ROW_VALUE.contains(number));
-        self.count("any low", passed && any(&|row| beyond(row.lows)));
-        self.count("any high", passed && any(&|row| beyond(row.highs)));
         let crossed = |row: Parts| row.lows.iter().zip(row.highs).any(|(low, high)| low > high);
         self.count("a low above its high", passed && any(&crossed));
         let junk = past.iter().any(|place| !ROW_VALUE.contains(place));
@@ -155,6 +192,31 @@ impl Edges {
             self.count("10 in the last row alone", bad + 1 == count);
             self.count("10 after a run", matches!(before, FirstClear::Row(_)));
         }
+    }
+
+    /// Rows of which value and radius say something else than low and high do.
+    fn meet_ends(&mut self, trial: &QueryTrial, answer: FirstClear) {
+        if !passed(answer) {
+            return;
+        }
+        let query = &trial.query;
+        let rows = counted_rows(trial);
+        let any = |holds: &dyn Fn(&[i64]) -> bool| rows.iter().any(|row| holds(row));
+        let at_end_alone = |row: &[i64]| clears_at_end(query, row) && !is_certain(query, row);
+        let within_alone = |row: &[i64]| is_certain(query, row) && !clears_at_end(query, row);
+        self.count("clear at the end alone", any(&at_end_alone));
+        self.count("certain, not clear at the end", any(&within_alone));
+        let other = answer != first_clear_at_end(trial);
+        self.count("another answer by values and radii", other);
+        let weights = &query.weights[..trial.n];
+        let found = matches!(answer, FirstClear::Row(_));
+        let (up, down) = (
+            weights.iter().any(|&weight| weight > 0),
+            weights.iter().any(|&weight| weight < 0),
+        );
+        self.count("a run by lows alone", found && up && !down);
+        self.count("a run by highs alone", found && down && !up);
+        self.count("a run by lows and highs", found && up && down);
     }
 
     /// By how much rows are certain, and where the run stands among those that are.
@@ -213,10 +275,120 @@ fn passed(answer: FirstClear) -> bool {
 }
 
 fn in_range(row: &[i64]) -> bool {
-    let Parts { values, radii, .. } = rows::parts(row);
+    let Parts {
+        values,
+        radii,
+        lows,
+        highs,
+        ..
+    } = rows::parts(row);
     let value = |value: &i64| (-VALUE_END..=VALUE_END).contains(value);
     let radius = |radius: &i64| (0..=VALUE_END).contains(radius);
-    values.iter().all(value) && radii.iter().all(radius)
+    [values, lows, highs].into_iter().flatten().all(value) && radii.iter().all(radius)
+}
+
+/// The counted rows of a trial that all questions let pass.
+fn counted_rows(trial: &QueryTrial) -> Vec<&[i64]> {
+    let rows = trial.rows.chunks_exact(rows::width(trial.n));
+    rows.take(trial.count).collect()
+}
+
+/// Whether a row clears the need at its own time, by value and radius.
+fn clears_at_end(query: &Query, row: &[i64]) -> bool {
+    least_clearance_at_end(query, row) >= i128::from(query.need) * i128::from(SCALE)
+}
+
+/// What the answer to a trial that all questions let pass would be by values and radii.
+fn first_clear_at_end(trial: &QueryTrial) -> FirstClear {
+    let rows = counted_rows(trial);
+    let clear: Vec<bool> = rows
+        .iter()
+        .map(|row| clears_at_end(&trial.query, row))
+        .collect();
+    let mut runs = clear.windows(trial.query.run);
+    let first = runs.position(|run| run.iter().all(|&clear| clear));
+    first.map_or(FirstClear::NoRow, |place| FirstClear::Row(place + 1))
+}
+
+/// How many rows of passages are certain, and how many clear the need at their end alone.
+#[derive(Debug, Default)]
+struct Rows {
+    certain: usize,
+    at_end_alone: usize,
+    neither: usize,
+}
+
+impl Rows {
+    fn count(&mut self, query: &Query, row: &[i64]) {
+        let kind = match (is_certain(query, row), clears_at_end(query, row)) {
+            (true, true) => &mut self.certain,
+            (false, true) => &mut self.at_end_alone,
+            (false, false) => &mut self.neither,
+            (true, false) => panic!("certain, but not clear at its end: {query:?} {row:?}"),
+        };
+        *kind += 1;
+    }
+}
+
+/// A low of a passage's row is no higher than value less radius, and a high no lower than value plus radius.
+fn holds_its_end(row: &[i64]) -> bool {
+    let Parts {
+        values,
+        radii,
+        lows,
+        highs,
+        ..
+    } = rows::parts(row);
+    let ends = lows.iter().zip(highs);
+    let mut quantities = values.iter().zip(radii).zip(ends);
+    quantities
+        .all(|((value, radius), (low, high))| low + radius <= *value && value + radius <= *high)
+}
+
+#[test]
+fn a_certain_row_of_a_passage_clears_at_its_end() {
+    let mut trials = QueryTrials::from_seed(2);
+    let mut rows = Rows::default();
+    let mut tally = ClearTally::default();
+    let mut other_answers = 0;
+    for _ in 0..COUNT / 3 {
+        let trial = trials.of_a_passage();
+        let answer = trial.answer();
+        assert!(passed(answer), "{trial:?}");
+        for row in counted_rows(&trial) {
+            assert!(holds_its_end(row), "{row:?}");
+            rows.count(&trial.query, row);
+        }
+        tally.count(answer);
+        other_answers += usize::from(answer != first_clear_at_end(&trial));
+    }
+    println!("{tally:?}, {other_answers} another answer by values and radii; {rows:?}");
+    assert!(tally.rows.min(tally.none) >= COUNT / 20);
+    assert!(other_answers >= COUNT / 60);
+    let least = rows.certain.min(rows.at_end_alone).min(rows.neither);
+    assert!(least >= COUNT / 10, "{rows:?}");
+}
+
+/// Passages from the limit of question 4, whose lows and highs lie farthest out: refusal 10 is not for their rows.
+#[test]
+fn rows_of_passages_are_in_range() {
+    let mut random = Random::from_seed(3);
+    let mut farthest = 0;
+    for _ in 0..COUNT / 20 {
+        for sheet in [
+            at_the_limit_from_the_start(&mut random),
+            of_long_numbers(&mut random),
+        ] {
+            for row in written(&sheet) {
+                assert!(in_range(&row), "{sheet:?}: {row:?}");
+                let Parts { lows, highs, .. } = rows::parts(&row);
+                let ends = lows.iter().chain(highs);
+                farthest = ends.map(|end| end.abs()).fold(farthest, i64::max);
+            }
+        }
+    }
+    println!("the farthest low or high: {farthest}");
+    assert!(farthest > 2 * LIMIT);
 }
 
 #[test]
