@@ -45,11 +45,18 @@ def turning_passage(rng, direction):
     }
 
 
+KINDS = [random_passage, with_repeated_terms, turning_passage]
+
+
 def random_fraction(rng):
-    """A fraction of the step, and where it lies. The ends are as frequent as what lies between."""
+    """A fraction of the step from 0 to 1; a third of them are its ends."""
     whole = rng.choice([rng.randint(2, 9), rng.randint(10, 1000), 10**6, 1 << 20])
-    fraction = rng.choice([Fraction(0), Fraction(1), *(Fraction(rng.randint(1, whole - 1), whole) for _ in range(4))])
-    return fraction, {0: AT_START, 1: AT_END}.get(fraction, WITHIN)
+    return rng.choice([Fraction(0), Fraction(1), *(Fraction(rng.randint(1, whole - 1), whole) for _ in range(4))])
+
+
+def place_of(fraction):
+    """Where a fraction of the step lies."""
+    return {0: AT_START, 1: AT_END}.get(fraction, WITHIN)
 
 
 def states(rng, values, radii):
@@ -134,7 +141,7 @@ def main():
     reference, seed, count = sys.argv[1], int(sys.argv[2]), int(sys.argv[3])
     rng = random.Random(seed)
     uses = Uses()
-    kinds = cycle(product([random_passage, with_repeated_terms, turning_passage], [FORWARD, BACK]))
+    kinds = cycle(product(KINDS, [FORWARD, BACK]))
     for _, (kind, direction) in zip(range(count), kinds):
         passage = kind(rng, direction)
         terms, step = passage["terms"], passage["step"]
@@ -144,13 +151,13 @@ def main():
             uses.rows += 1
             for place, state in states(rng, values, radii):
                 for _ in range(2):
-                    fraction, where = random_fraction(rng)
+                    fraction = random_fraction(rng)
                     degree = row.degree + rng.choice([0, 0, 1, 2, 5, 12])
                     sums = exact_sum(state, terms, step, degree, fraction)
                     if not lies_between(sums, row.lows, row.highs):
                         what = f"outside at {fraction} of a step, at degree {degree}, from {state}"
                         return report(what, passage, values, radii, row)
-                    uses.add([direction_of(passage), place, where], sums, values, radii, row)
+                    uses.add([direction_of(passage), place, place_of(fraction)], sums, values, radii, row)
     uses.print(count, seed)
     return 0
 

@@ -160,15 +160,26 @@ def print_table(columns):
         print(f"| {name} | " + " | ".join(map(str, cells)) + " |")
 
 
-def exact_states(rng, rows, passage, state):
-    """Carries an exact state along the printed rows, at degrees no lower than theirs: each row's exact
-    state, with its values and radii."""
+def random_degree(rng, row):
+    """A degree no lower than the printed one."""
+    return row.degree + rng.choice([0, 0, 1, 2, 5])
+
+
+def exact_steps(rng, rows, passage, state):
+    """Carries an exact state along the printed rows, at degrees no lower than theirs: each row, with the
+    exact states before and after its step."""
     for row in rows:
-        degree = row.degree + rng.choice([0, 0, 1, 2, 5])
+        degree = random_degree(rng, row)
         bits = max(number.denominator.bit_length() for number in state) + SCALE.bit_length()
         if bits * (degree + 1) > MOST_BITS:
             break
-        state = exact_sum(state, passage["terms"], passage["step"], degree)
+        before, state = state, exact_sum(state, passage["terms"], passage["step"], degree)
+        yield before, state, row
+
+
+def exact_states(rng, rows, passage, state):
+    """Each row's exact state, with its values and radii."""
+    for _, state, row in exact_steps(rng, rows, passage, state):
         yield state, row.values, row.radii
 
 
