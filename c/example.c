@@ -5,10 +5,11 @@
  *     example rows                       the same, from planner_run's rows and summary
  *     example convert                    the conversion of a stored sheet, which may have up to 400 steps
  *     example first QUANTITY NEED RUN    the first row from which on RUN rows in a row have at least NEED units of the
- *                                        quantity (numbered from 1) for certain: a line first=ROW, or first=0 where there
- *                                        is none, or refused=NUMBER where the query is refused; then the answer's last
- *                                        two lines. Where a step is refused, the rows before it are looked through. Where
- *                                        the sheet cannot be read, there are only the two lines
+ *                                        quantity (numbered from 1) for certain, each all through its step: a line
+ *                                        first=ROW, or first=0 where there is none, or refused=NUMBER where the query is
+ *                                        refused; then the answer's last two lines. Where a step is refused, the rows
+ *                                        before it are looked through. Where the sheet cannot be read, there are only the
+ *                                        two lines
  *
  * The exit status is the answer's result or, where that is 0, the number with which the query is refused; of a conversion
  * 0; 64 where the arguments are not understood or the sheet has no such quantity; 74 where nothing could be read or
@@ -50,7 +51,7 @@ struct query {
     int64_t quantity, need, run;
 };
 
-/* Prints the first row with enough of a quantity. Gives the number of the refusal, or 0. */
+/* Prints the first row with enough of a quantity all through its step. Gives the number of the refusal, or 0. */
 static int print_first(const uint64_t *summary, struct query query)
 {
     int64_t weights[PLANNER_MOST_QUANTITIES] = {0};

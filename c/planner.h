@@ -121,8 +121,8 @@ size_t planner_convert(const uint8_t *sheet, size_t sheet_length,
                        uint8_t *text, size_t text_length);
 
 /*
- * First water for a ship: looks through rows for the first run of so many rows in a row that are certain to clear a need.
- * The clearance is a base and a weighed sum of the quantities.
+ * First water for a ship: looks through rows for the first run of so many rows in a row that are certain to clear a need,
+ * each all through its step. The clearance is a base and a weighed sum of the quantities.
  *
  *   n, count              the rows' quantities, 1 to PLANNER_MOST_QUANTITIES, and how many rows are looked through, 0 to
  *                         PLANNER_MOST_STEPS; planner_run's summary has both of the rows that it wrote
@@ -133,9 +133,10 @@ size_t planner_convert(const uint8_t *sheet, size_t sheet_length,
  *   run                   how many rows in a row, 1 to PLANNER_MOST_STEPS
  *
  * Weights, base and need are in units, of which 2^24 (PLANNER_SCALE) make 1: a weight of PLANNER_SCALE takes a quantity as
- * it is. A row is certain where the least clearance within its radii is the need or more, to the last part of a unit:
+ * it is. A row is certain where the clearance with each quantity at its low, or at its high where its weight is negative,
+ * is the need or more, to the last part of a unit; a weight of 0 counts nothing:
  *
- *     base * 2^24 + the sum of weight * value - the sum of |weight| * radius >= need * 2^24
+ *     base * 2^24 + the sum of weight * (weight < 0 ? high : low) >= need * 2^24
  *
  * Gives the number, from 1, of the first row that opens a run of `run` certain rows, all of them among the count rows; 0
  * where no row does; or minus the number of a refusal, the first of these that there is cause for:
@@ -143,13 +144,15 @@ size_t planner_convert(const uint8_t *sheet, size_t sheet_length,
  *   3    n or count is out of its range
  *   5    rows_length is less than count * PLANNER_ROW_WIDTH(n)
  *   9    one of the n weights, base, need or run is out of its range
- *   10   in any of the count rows, also after such a run, a value is outside -2^31 to 2^31 or a radius outside 0 to 2^31;
- *        the degrees, the lows and the highs are not looked at
+ *   10   in any of the count rows, also after such a run, a value, a low or a high is outside -2^31 to 2^31 or a radius
+ *        outside 0 to 2^31, whatever the quantity's weight, and although values and radii do not enter the sum. A low may
+ *        lie above its high, and the degrees are not looked at
  *
  * What a pilot may say of it, where planner_run or planner_answer wrote the rows (all that they wrote, or the first count of
- * them): the exact state of every certain row clears the need, whatever exact start lies within the sheet's radii, and
- * with exact sums of whatever degrees no lower than the printed ones. Between two rows the lows and highs say what there
- * is; the search does not look at them.
+ * them): at every rational fraction of the step of every certain row, 0 and 1 included, the exact clearance is at least the
+ * need, whatever exact start lies within the sheet's radii, and with exact sums of whatever degrees no lower than the
+ * printed ones, at the fraction too. At 1 this is the row's own time: the exact state of every certain row clears the need.
+ * A row whose values less radii clear it need not be certain: they say nothing of its step before its end.
  *
  * The arrays are only read. No pointer may be null, even with the length or the count 0.
  */
