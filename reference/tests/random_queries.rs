@@ -27,27 +27,15 @@ struct Part {
     low: i64,
 }
 
+const fn part(name: &'static str, of: fn(Parts) -> &[i64], low: i64) -> Part {
+    Part { name, of, low }
+}
+
 const PARTS: [Part; 4] = [
-    Part {
-        name: "value",
-        of: |row| row.values,
-        low: -VALUE_END,
-    },
-    Part {
-        name: "radius",
-        of: |row| row.radii,
-        low: 0,
-    },
-    Part {
-        name: "low",
-        of: |row| row.lows,
-        low: -VALUE_END,
-    },
-    Part {
-        name: "high",
-        of: |row| row.highs,
-        low: -VALUE_END,
-    },
+    part("value", |row| row.values, -VALUE_END),
+    part("radius", |row| row.radii, 0),
+    part("low", |row| row.lows, -VALUE_END),
+    part("high", |row| row.highs, -VALUE_END),
 ];
 
 /// The edges that a trial meets, by name.

@@ -1,7 +1,7 @@
 -- What passes the questions before the search is just what is in range: n, the count, the places, the query, and every value, radius, low and high of every
 -- counted row. Assumes nothing.
 use Prim.Native.Nat.{ℕ, _*_, _≤_, _<_}
-use mathlib.Core.Bool.{Bool, true, false≢true, _&&_}
+use mathlib.Core.Bool.{Bool, true, false≢true}
 use mathlib.Core.List.{List}
 use mathlib.Core.Path.{_≡_, refl}
 use native.Mathlib.Omega.{arith}

@@ -1,12 +1,10 @@
--- The whole claim: what the questions before the search come to, that the answer says what it says whatever is asked, and that it is so question by
--- question, as the code asks them. Assumes nothing.
+-- The whole claim: that the answer says what it says whatever is asked, and that it is so question by question, as the code asks them. Assumes nothing.
 use Prim.Native.Nat.{ℕ, _*_, _≤_, _<_}
 use mathlib.Core.Bool.{true, false}
 use mathlib.Core.List.{List}
 use mathlib.Core.Path.{_≡_, refl, sym, ap, _∙_}
 use native.Mathlib.Omega.{arith}
 use borrow.Author.Tests.{le-leb, lt-leb}
-use lib.Dec.{leb}
 use lib.IntN.{ℤ, pos}
 use lib.ListN.{length}
 use Rattle.model.specs.Range.{every}
@@ -47,7 +45,7 @@ module _ (n count : ℕ) (buffer : List ℤ) (query : Query) where
 
 module _ (n count : ℕ) (buffer : List ℤ) (query : Query) where
   pub numbered : {found : Found} → found ≡ firstClear n count buffer query → NamesRow found
-  unfolding NamesRow firstClear count-limits
+  unfolding NamesRow firstClear
   numbered {found} e row f = go (clearVerdict n count buffer query) refl e
     where
       go : (v : Verdict) → clearVerdict n count buffer query ≡ v → found ≡ elim v [ refuses r ↦ Refused r | passes ↦ firstRun query (rowsIn n count buffer) ] → row ≤ most-steps
