@@ -1,4 +1,4 @@
-//! `reference`: reads one sheet from standard input and prints its answer, or its conversion.
+//! `reference`: reads one sheet from standard input and prints its answer, its conversion, or why it is refused.
 //! Its other commands make random sheets and queries, and compare and time the proved planner and this program.
 
 use reference::answer::answer;
@@ -8,6 +8,7 @@ use reference::compare::{
 };
 use reference::convert::converted;
 use reference::cost::{Variant, degrees, products, variants};
+use reference::explain::explanation;
 use reference::explore::Explorer;
 use reference::generate::{Trial, Trials};
 use reference::queries::{QueryTrial, QueryTrials};
@@ -22,6 +23,8 @@ use std::time::{Duration, Instant};
 const USAGE: &str = "\
 reference                      reads a sheet from standard input, prints its answer
 reference convert              reads a stored sheet from standard input, prints its conversion
+reference read                 reads a sheet, prints it as read; where it is not read, why not, with exit status 1
+reference explain              reads a sheet, prints why it or its passage is refused
 reference generate SEED COUNT  prints random sheets, each after a line `bytes=B places=P`
 reference compare SEED COUNT   runs random sheets through the proved planner and this program
 reference first-clear SEED COUNT  asks both for the first clear run in random rows
@@ -40,6 +43,8 @@ fn main() -> io::Result<ExitCode> {
     match (arguments.first().map(String::as_str), numbers.as_deref()) {
         (None, _) => answer_sheet(),
         (Some("convert"), Some(&[])) => convert_sheet(),
+        (Some("read"), Some(&[])) => read_sheet(),
+        (Some("explain"), Some(&[])) => explain_sheet(),
         (Some("time"), _) if arguments.len() > 2 => time(&arguments[1], &arguments[2..]),
         (Some("cost"), _) if arguments.len() == 3 => cost(&arguments[1], &arguments[2]),
         (Some("program"), _) if arguments.len() == 4 => {
@@ -73,6 +78,22 @@ fn answer_sheet() -> io::Result<ExitCode> {
 fn convert_sheet() -> io::Result<ExitCode> {
     let mut rows = vec![0; MOST_PLACES];
     io::stdout().write_all(&converted(&sheet_given()?, &mut rows))?;
+    Ok(ExitCode::SUCCESS)
+}
+
+fn read_sheet() -> io::Result<ExitCode> {
+    let given = sheet_given()?;
+    let (printed, status) = match read(&given) {
+        Ok(sheet) => (text(&sheet), ExitCode::SUCCESS),
+        Err(_) => (explanation(&given).into_bytes(), ExitCode::FAILURE),
+    };
+    io::stdout().write_all(&printed)?;
+    Ok(status)
+}
+
+fn explain_sheet() -> io::Result<ExitCode> {
+    let explanation = explanation(&sheet_given()?);
+    io::stdout().write_all(explanation.as_bytes())?;
     Ok(ExitCode::SUCCESS)
 }
 

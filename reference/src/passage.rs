@@ -1,5 +1,6 @@
 //! A passage: step after step from the start, each row into a lent buffer.
 
+use crate::rows;
 use crate::sheet::{MOST_QUANTITIES, Refusal, Sheet};
 use crate::step::{State, Steps};
 
@@ -46,6 +47,20 @@ pub fn start(sheet: &Sheet) -> State {
     for (i, start) in sheet.starts.iter().enumerate() {
         state.values[i] = start.value.expect("a checked sheet has every reading");
         state.radii[i] = start.radius as u64;
+    }
+    state
+}
+
+/// The state before step `at` of a passage whose earlier steps have been run into `rows`.
+pub fn before(sheet: &Sheet, rows: &[i64], at: usize) -> State {
+    let mut state = start(sheet);
+    let mut earlier = rows.chunks_exact(sheet.row_places()).take(at - 1);
+    if let Some(row) = earlier.next_back() {
+        let row = rows::parts(row);
+        for i in 0..sheet.starts.len() {
+            state.values[i] = row.values[i];
+            state.radii[i] = row.radii[i] as u64;
+        }
     }
     state
 }

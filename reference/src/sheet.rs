@@ -44,6 +44,88 @@ pub enum Refusal {
     RowOutOfRange = 10,
 }
 
+/// The first fault of a sheet that is not read.
+#[derive(Clone, Copy, Debug, PartialEq, Eq)]
+pub enum Fault<'a> {
+    /// The sheet has more bytes than a sheet may have; its lines are not looked at.
+    TooLong,
+    /// A line is not what must stand in its place.
+    InLine(LineFault<'a>),
+}
+
+/// A line that is not what must stand in its place.
+#[derive(Clone, Copy, Debug, PartialEq, Eq)]
+pub struct LineFault<'a> {
+    /// The line's number, from 1.
+    pub line: usize,
+    /// The key that the line must have, or `END_KEY`.
+    pub key: &'static str,
+    pub group: Group,
+    /// What stands there, without its line feed; nothing where the sheet has ended.
+    pub found: &'a [u8],
+    pub why: Why,
+}
+
+/// What stands for a key where no line may follow.
+pub const END_KEY: &str = "end";
+
+/// Which of the sheet's repeated lines a line belongs to.
+#[derive(Clone, Copy, Debug, PartialEq, Eq)]
+pub enum Group {
+    /// The line stands once in a sheet.
+    Once,
+    /// A start and its radius, by the quantity's number, from 1.
+    Quantity(i64),
+    /// The four lines of a term, by its number, from 1.
+    Term(i64),
+}
+
+/// What is wrong with a line: what is asked of it first decides.
+#[derive(Clone, Copy, Debug, PartialEq, Eq)]
+pub enum Why {
+    /// The sheet has ended above the line.
+    Missing,
+    /// The line does not begin with its key and an equals sign.
+    Key,
+    /// The line has no line feed.
+    Unended,
+    /// A number, but for a minus that this line may not have.
+    Sign,
+    /// No number in the sheet's spelling.
+    Number,
+    /// A number, but not from `least` to `most`, or 0 where that lies between them and `not_zero` is set.
+    Range {
+        least: i64,
+        most: i64,
+        not_zero: bool,
+    },
+    /// `none` in the place of a reading.
+    Reading,
+    /// Bytes follow the last line.
+    After,
+}
+
+impl From<Why> for Refusal {
+    fn from(why: Why) -> Refusal {
+        match why {
+            Why::Range { .. } => Refusal::OutOfRange,
+            Why::Reading => Refusal::NoReading,
+            Why::Missing | Why::Key | Why::Unended | Why::Sign | Why::Number | Why::After => {
+                Refusal::Misspelt
+            }
+        }
+    }
+}
+
+impl From<Fault<'_>> for Refusal {
+    fn from(fault: Fault<'_>) -> Refusal {
+        match fault {
+            Fault::TooLong => Refusal::TooLong,
+            Fault::InLine(fault) => fault.why.into(),
+        }
+    }
+}
+
 /// A quantity's start; `value` is `None` where the sheet says `none`.
 #[derive(Clone, Copy, Debug, PartialEq, Eq)]
 pub struct Start {
@@ -126,55 +208,25 @@ impl Sheet {
 
 /// Reads a sheet; the first fault from the top decides the refusal.
 pub fn read(sheet: &[u8]) -> Result<Sheet, Refusal> {
-    read_with(sheet, STEPS)
+    examine(sheet).map_err(Refusal::from)
 }
 
 /// Reads a stored sheet, which may have more steps.
 pub fn read_stored(sheet: &[u8]) -> Result<Sheet, Refusal> {
-    read_with(sheet, STORED_STEPS)
+    examine_with(sheet, STORED_STEPS).map_err(Refusal::from)
 }
 
-fn read_with(sheet: &[u8], steps_range: RangeInclusive<i64>) -> Result<Sheet, Refusal> {
+/// Reads a sheet, or finds its first fault from the top.
+pub fn examine(sheet: &[u8]) -> Result<Sheet, Fault<'_>> {
+    examine_with(sheet, STEPS)
+}
+
+fn examine_with(sheet: &[u8], steps_range: RangeInclusive<i64>) -> Result<Sheet, Fault<'_>> {
     if sheet.len() > MOST_BYTES {
-        return Err(Refusal::TooLong);
+        return Err(Fault::TooLong);
     }
-    let mut lines = Lines { rest: sheet };
-    let n = lines.plain("n", QUANTITIES)?;
-    let steps = lines.plain("steps", steps_range)?;
-    let step = step_within(signed_number(lines.value("step")?)?)?;
-    let tail = lines.plain("tail", TAIL)?;
-    let tol = lines.plain("tol", TOL)?;
-    let mut starts = Vec::with_capacity(n as usize);
-    for _ in 0..n {
-        let value = Some(lines.reading("start", START)?);
-        let radius = lines.plain("radius", RADIUS)?;
-        starts.push(Start { value, radius });
-    }
-    let count = lines.plain("terms", TERMS)?;
-    let mut terms = Vec::with_capacity(count as usize);
-    for _ in 0..count {
-        let to = lines.plain("to", 1..=n)?;
-        let coef = lines.signed("coef", COEF)?;
-        let first = lines.plain("first", 0..=n)?;
-        let second = lines.plain("second", second_range(first, n))?;
-        terms.push(Term {
-            to,
-            coef,
-            first,
-            second,
-        });
-    }
-    if !lines.rest.is_empty() {
-        return Err(Refusal::Misspelt);
-    }
-    Ok(Sheet {
-        steps,
-        step,
-        tail,
-        tol,
-        starts,
-        terms,
-    })
+    let mut lines = Lines::of(sheet);
+    lines.sheet(steps_range).map_err(Fault::InLine)
 }
 
 /// A sheet as text.
@@ -208,76 +260,193 @@ fn second_range(first: i64, n: i64) -> RangeInclusive<i64> {
 }
 
 /// A step is in its range where its length is, forward or back; 0 is not.
-fn step_within(step: i64) -> Result<i64, Refusal> {
-    within(step.saturating_abs(), STEP_LENGTH)?;
-    Ok(step)
-}
-
-fn within(number: i64, range: RangeInclusive<i64>) -> Result<i64, Refusal> {
-    if range.contains(&number) {
-        Ok(number)
-    } else {
-        Err(Refusal::OutOfRange)
+fn step_within(step: i64) -> Result<i64, Why> {
+    if STEP_LENGTH.contains(&step.saturating_abs()) {
+        return Ok(step);
     }
+    let longest = *STEP_LENGTH.end();
+    Err(Why::Range {
+        least: -longest,
+        most: longest,
+        not_zero: true,
+    })
 }
 
-/// What is left of the sheet, line by line.
+fn within(number: i64, range: RangeInclusive<i64>) -> Result<i64, Why> {
+    if range.contains(&number) {
+        return Ok(number);
+    }
+    let (least, most) = range.into_inner();
+    Err(Why::Range {
+        least,
+        most,
+        not_zero: false,
+    })
+}
+
+/// A sheet's lines, from the top.
 struct Lines<'a> {
+    /// What is left of the sheet.
     rest: &'a [u8],
+    /// How many lines have been read.
+    read: usize,
+    /// What the next line belongs to.
+    group: Group,
 }
 
 impl<'a> Lines<'a> {
-    /// The text after `key=` of the next line, which ends with a line feed.
-    fn value(&mut self, key: &str) -> Result<&'a [u8], Refusal> {
-        let after_key = self.rest.strip_prefix(key.as_bytes());
-        let text = after_key.and_then(|text| text.strip_prefix(b"="));
-        let text = text.ok_or(Refusal::Misspelt)?;
-        let end = text.iter().position(|&byte| byte == b'\n');
-        let end = end.ok_or(Refusal::Misspelt)?;
-        self.rest = &text[end + 1..];
-        Ok(&text[..end])
+    fn of(sheet: &'a [u8]) -> Self {
+        Lines {
+            rest: sheet,
+            read: 0,
+            group: Group::Once,
+        }
     }
 
-    /// A number without a sign.
-    fn plain(&mut self, key: &str, range: RangeInclusive<i64>) -> Result<i64, Refusal> {
-        within(digits(self.value(key)?)?, range)
+    /// All of the sheet, line by line.
+    fn sheet(&mut self, steps_range: RangeInclusive<i64>) -> Result<Sheet, LineFault<'a>> {
+        let n = self.plain("n", QUANTITIES)?;
+        let steps = self.plain("steps", steps_range)?;
+        let step = self.line("step", |text| step_within(signed_number(text)?))?;
+        let tail = self.plain("tail", TAIL)?;
+        let tol = self.plain("tol", TOL)?;
+        let mut starts = Vec::with_capacity(n as usize);
+        for quantity in 1..=n {
+            self.group = Group::Quantity(quantity);
+            starts.push(self.start()?);
+        }
+        self.group = Group::Once;
+        let count = self.plain("terms", TERMS)?;
+        let mut terms = Vec::with_capacity(count as usize);
+        for term in 1..=count {
+            self.group = Group::Term(term);
+            terms.push(self.term(n)?);
+        }
+        self.group = Group::Once;
+        self.end()?;
+        Ok(Sheet {
+            steps,
+            step,
+            tail,
+            tol,
+            starts,
+            terms,
+        })
     }
 
-    /// A number that may have a minus.
-    fn signed(&mut self, key: &str, range: RangeInclusive<i64>) -> Result<i64, Refusal> {
-        within(signed_number(self.value(key)?)?, range)
+    fn start(&mut self) -> Result<Start, LineFault<'a>> {
+        Ok(Start {
+            value: Some(self.line("start", reading)?),
+            radius: self.plain("radius", RADIUS)?,
+        })
     }
 
-    /// A number that may have a minus, or `none`.
-    fn reading(&mut self, key: &str, range: RangeInclusive<i64>) -> Result<i64, Refusal> {
-        match self.value(key)? {
-            b"none" => Err(Refusal::NoReading),
-            text => within(signed_number(text)?, range),
+    /// A term of a sheet with n quantities.
+    fn term(&mut self, n: i64) -> Result<Term, LineFault<'a>> {
+        let to = self.plain("to", 1..=n)?;
+        let coef = self.line("coef", |text| within(signed_number(text)?, COEF))?;
+        let first = self.plain("first", 0..=n)?;
+        let second = self.plain("second", second_range(first, n))?;
+        Ok(Term {
+            to,
+            coef,
+            first,
+            second,
+        })
+    }
+
+    /// A line whose number has no sign.
+    fn plain(
+        &mut self,
+        key: &'static str,
+        range: RangeInclusive<i64>,
+    ) -> Result<i64, LineFault<'a>> {
+        self.line(key, |text| within(plain_number(text)?, range))
+    }
+
+    /// The next line, whose text after `key=` is a number by `number`.
+    fn line(
+        &mut self,
+        key: &'static str,
+        number: impl FnOnce(&[u8]) -> Result<i64, Why>,
+    ) -> Result<i64, LineFault<'a>> {
+        let (text, rest) = value(self.rest, key).map_err(|why| self.fault(key, why))?;
+        let number = number(text).map_err(|why| self.fault(key, why))?;
+        self.rest = rest;
+        self.read += 1;
+        Ok(number)
+    }
+
+    /// Nothing may follow the last line.
+    fn end(&self) -> Result<(), LineFault<'a>> {
+        if self.rest.is_empty() {
+            Ok(())
+        } else {
+            Err(self.fault(END_KEY, Why::After))
+        }
+    }
+
+    /// A fault of the next line.
+    fn fault(&self, key: &'static str, why: Why) -> LineFault<'a> {
+        let end = self.rest.iter().position(|&byte| byte == b'\n');
+        LineFault {
+            line: self.read + 1,
+            key,
+            group: self.group,
+            found: &self.rest[..end.unwrap_or(self.rest.len())],
+            why,
         }
     }
 }
 
+/// The text between `key=` and the line feed of the first line, and what follows that line.
+fn value<'a>(lines: &'a [u8], key: &str) -> Result<(&'a [u8], &'a [u8]), Why> {
+    if lines.is_empty() {
+        return Err(Why::Missing);
+    }
+    let after_key = lines.strip_prefix(key.as_bytes());
+    let text = after_key.and_then(|text| text.strip_prefix(b"="));
+    let text = text.ok_or(Why::Key)?;
+    let end = text.iter().position(|&byte| byte == b'\n');
+    let end = end.ok_or(Why::Unended)?;
+    Ok((&text[..end], &text[end + 1..]))
+}
+
+/// A number that may have a minus, or `none`.
+fn reading(text: &[u8]) -> Result<i64, Why> {
+    match text {
+        b"none" => Err(Why::Reading),
+        _ => within(signed_number(text)?, START),
+    }
+}
+
+/// A number without a sign.
+fn plain_number(text: &[u8]) -> Result<i64, Why> {
+    digits(text).ok_or_else(|| match signed_number(text) {
+        Ok(_) => Why::Sign,
+        Err(why) => why,
+    })
+}
+
+/// A number with a minus or without; never a minus before 0.
+fn signed_number(text: &[u8]) -> Result<i64, Why> {
+    let number = match text {
+        b"-0" => None,
+        [b'-', size @ ..] => digits(size).map(|size| -size),
+        _ => digits(text),
+    };
+    number.ok_or(Why::Number)
+}
+
 /// One to nine digits, without a leading zero except in 0 itself.
-fn digits(text: &[u8]) -> Result<i64, Refusal> {
+fn digits(text: &[u8]) -> Option<i64> {
     let well_spelt = match text {
         [b'0'] => true,
         [b'1'..=b'9', rest @ ..] => rest.len() <= 8 && rest.iter().all(u8::is_ascii_digit),
         _ => false,
     };
-    if well_spelt {
-        Ok(text
-            .iter()
-            .fold(0, |number, digit| 10 * number + i64::from(digit - b'0')))
-    } else {
-        Err(Refusal::Misspelt)
-    }
-}
-
-/// A number with a minus or without; never a minus before 0.
-fn signed_number(text: &[u8]) -> Result<i64, Refusal> {
-    match text {
-        b"-0" => Err(Refusal::Misspelt),
-        [b'-', size @ ..] => Ok(-digits(size)?),
-        _ => digits(text),
-    }
+    well_spelt.then(|| {
+        text.iter()
+            .fold(0, |number, digit| 10 * number + i64::from(digit - b'0'))
+    })
 }
