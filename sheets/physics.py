@@ -40,7 +40,8 @@ def over_low_water(start, coefs, time):
     return [height, speed, start[2] + height - start[0]]
 
 
-def tide_by_feedback(start, coefs, time):
+def harmonic(start, coefs, time):
+    """One such motion and nothing else: the tide by feedback, or sine and cosine."""
     return list(tide(coefs[0], start[0], start[1], time))
 
 
@@ -93,41 +94,72 @@ def jacobi(start, coefs, time):
     return [sin(angle), cos(angle), sqrt(1 - 0.5 * sin(angle) ** 2)]
 
 
-def runge_kutta(y, slope, h):
-    """A step of the classical Runge-Kutta method along y'' = (1 - y^2) y' - y."""
+def square(start, coefs, time):
+    """x' = x^2 from 1."""
+    return [1 / (1 - time)]
 
-    def rates(y, slope):
-        return slope, (1 - y * y) * slope - y
 
-    a = rates(y, slope)
-    b = rates(y + h / 2 * a[0], slope + h / 2 * a[1])
-    c = rates(y + h / 2 * b[0], slope + h / 2 * b[1])
-    d = rates(y + h * c[0], slope + h * c[1])
-    return (
-        y + h / 6 * (a[0] + 2 * b[0] + 2 * c[0] + d[0]),
-        slope + h / 6 * (a[1] + 2 * b[1] + 2 * c[1] + d[1]),
-    )
+def logistic(start, coefs, time):
+    """x' = x - x^2 from 1/2."""
+    return [1 / (1 + exp(-time))]
+
+
+def runge_kutta(rates, state, h):
+    """A step of the classical Runge-Kutta method along the motion with these rates."""
+
+    def ahead(part, slopes):
+        return [number + part * slope for number, slope in zip(state, slopes)]
+
+    a = rates(*state)
+    b = rates(*ahead(h / 2, a))
+    c = rates(*ahead(h / 2, b))
+    d = rates(*ahead(h, c))
+    return ahead(h / 6, [p + 2 * q + 2 * r + s for p, q, r, s in zip(a, b, c, d)])
 
 
 @cache
-def path(y, slope):
+def path(rates, start):
     """The motion at the multiples of PATH_STEP, as far as it has been followed."""
-    return [(y, slope)]
+    return [start]
+
+
+def motion(rates, start, time):
+    """Where the motion is at a time: along its path and by a last part of a step."""
+    followed, steps = path(rates, start), int(time / PATH_STEP)
+    while len(followed) <= steps:
+        followed.append(runge_kutta(rates, followed[-1], PATH_STEP))
+    return runge_kutta(rates, followed[steps], time - steps * PATH_STEP)
+
+
+def van_der_pol_rates(y, slope):
+    """y'' = (1 - y^2) y' - y."""
+    return slope, (1 - y * y) * slope - y
 
 
 def van_der_pol(start, coefs, time):
-    """Van der Pol's equation, along its path and by a last part of a step."""
-    followed, steps = path(start[0], start[1]), int(time / PATH_STEP)
-    while len(followed) <= steps:
-        followed.append(runge_kutta(*followed[-1], PATH_STEP))
-    y, slope = runge_kutta(*followed[steps], time - steps * PATH_STEP)
+    y, slope = motion(van_der_pol_rates, (start[0], start[1]), time)
     return [y, slope, start[2] + start[0] ** 2 - y * y]
+
+
+def brusselator_rates(x, y, loss):
+    """The two equations before their reduction, and their parameter, which stays as it is."""
+    turned = x * x * y
+    return 2 + turned - (loss + 1) * x, loss * x - turned, 0
+
+
+def brusselator(start, coefs, time):
+    """The two quantities, and the two added ones as they follow from them, at the start too."""
+    x, y, loss = motion(brusselator_rates, (start[0], start[1], -coefs[4]), time)
+    return [x, y, x * y - loss, x * x]
 
 
 FORMS = {
     "approach-over-sill": approach_over_sill,
     "basin-through-sluice": basin_through_sluice,
+    "brusselator": brusselator,
     "drag-corrected": drag_corrected,
+    "euler": harmonic,
+    "euler-half": harmonic,
     "exponential": lambda start, coefs, time: [exp(time)],
     "growing-oscillation": lambda start, coefs, time: [
         sqrt(time + 1) * cos(time**2),
@@ -137,11 +169,17 @@ FORMS = {
     ],
     "jacobi": jacobi,
     "logarithm": lambda start, coefs, time: [log(time + 1), 1 / (time + 1)],
+    "logistic": logistic,
+    "logistic-fine": logistic,
     "mark-at-quay": tide_over_sill,
     "over-low-water": over_low_water,
     "ship-losing-way": ship_losing_way,
-    "square": lambda start, coefs, time: [1 / (1 - time)],
-    "tide-by-feedback": tide_by_feedback,
+    "simplest": square,
+    "sine-3": harmonic,
+    "sine-5": harmonic,
+    "sine-7": harmonic,
+    "square": square,
+    "tide-by-feedback": harmonic,
     "tide-over-sill": tide_over_sill,
     "van-der-pol": van_der_pol,
 }
@@ -191,6 +229,7 @@ class Gallery:
         self.sheet, self.answer = lines(folder / f"{name}.sheet"), lines(folder / f"{name}.answer")
         [self.step], [self.n] = numbers(self.sheet, "step"), numbers(self.sheet, "n")
         self.coefs = [coef / SCALE for coef in numbers(self.sheet, "coef")]
+        self.middle = [start / SCALE for start in numbers(self.sheet, "start")]
         self.starts = ends(self.sheet)
 
     def rows(self, key):
@@ -198,11 +237,20 @@ class Gallery:
         all_rows = numbers(self.answer, key)
         return [all_rows[place : place + self.n] for place in range(0, len(all_rows), self.n)]
 
-    def farthest(self, time, middles, widths):
-        """The largest |physics - middle| / width at a time, over all starts and quantities."""
+    def time(self, row):
+        """A row's own time, or that of a part of its step, by the sheet's unit of time."""
+        return row * self.step / SCALE
+
+    def error(self, row, quantity):
+        """How far a row's value is from the physics, from the middle of the start's radii, in units."""
+        physics = self.form(self.middle, self.coefs, self.time(row))
+        return abs(SCALE * physics[quantity - 1] - self.rows("value")[row - 1][quantity - 1])
+
+    def farthest(self, row, middles, widths):
+        """The largest |physics - middle| / width at a row's time, over all starts and quantities."""
         largest = 0
         for start in self.starts:
-            physics = self.form(start, self.coefs, time * self.step / SCALE)
+            physics = self.form(start, self.coefs, self.time(row))
             for number, middle, width in zip(physics, middles, widths):
                 off = abs(SCALE * number - middle) - FLOATING_POINT_ERROR
                 largest = max(largest, off / width)
@@ -219,7 +267,7 @@ class Gallery:
     def part_of_radii(self):
         """The largest part of a radius that the physics uses, at the rows' own times."""
         rows = zip(itertools.count(1), self.rows("value"), self.rows("radius"))
-        return max(self.farthest(time, values, radii) for time, values, radii in rows)
+        return max(self.farthest(row, values, radii) for row, values, radii in rows)
 
     def part_of_reaches(self):
         """The largest part of a reach that it uses, all through the steps."""
@@ -251,8 +299,8 @@ class Gallery:
 
     def least_margin(self, query, rows):
         """The least margin of the physics all through the steps of some rows."""
-        times = [number - 1 + part / FRACTIONS for number in rows for part in range(FRACTIONS + 1)]
-        forms = (self.form(start, self.coefs, time * self.step / SCALE) for time in times for start in self.starts)
+        times = [self.time(row - 1 + part / FRACTIONS) for row in rows for part in range(FRACTIONS + 1)]
+        forms = (self.form(start, self.coefs, time) for time in times for start in self.starts)
         return min((margin(query, physics) for physics in forms), default=inf)
 
     def widths(self):
