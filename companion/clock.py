@@ -1,0 +1,77 @@
+"""The times of the rows: on the clock where the description has one, else as plain numbers of its unit of time. Row j
+stands at j times the description's step. The sheet's step is that step rounded, which `write` has said."""
+
+import datetime
+from fractions import Fraction
+from math import ceil, floor
+
+from units import decimal, near, unit
+
+SECOND = unit("s")
+FINEST = 3  # Places behind the second that are ever shown.
+
+
+class Clock:
+    """A description's clock."""
+
+    def __init__(self, time):
+        self.time = time
+        self.is_clock = time.begin is not None
+        instants = [self.seconds(row) for row in range(time.steps + 1)]
+        self.digits = next(
+            (digits for digits in range(FINEST) if all(is_whole(s * 10**digits) for s in instants)), FINEST
+        )
+        self.in_minutes = self.is_clock and all(is_whole(instant / 60) for instant in instants)
+
+    def seconds(self, row):
+        """A row's time: seconds since midnight of the first day, or in the unit of time from the start."""
+        since = row * self.time.step
+        if not self.is_clock:
+            return since
+        begin = self.time.begin
+        midnight = datetime.datetime.combine(begin.date(), datetime.time())
+        passed = begin - midnight
+        return passed.seconds + Fraction(passed.microseconds, 10**6) + since * unit(self.time.scale.unit).size
+
+    def text(self, row, rounded=near):
+        """A row's time. A window is told with its beginning rounded up and its end rounded down."""
+        if not self.is_clock:
+            return decimal(self.seconds(row), FINEST + 3 if self.digits == FINEST else self.digits, rounded)
+        parts = rounded(self.seconds(row) * 10**self.digits)
+        day, within = divmod(parts, 86400 * 10**self.digits)
+        seconds, part = divmod(within, 10**self.digits)
+        hours, minutes, seconds = seconds // 3600, seconds // 60 % 60, seconds % 60
+        told = f"{hours:02}:{minutes:02}"
+        if not self.in_minutes:
+            told += f":{seconds:02}" + (f".{part:0{self.digits}}" if self.digits else "")
+        return self.on_day(day, told)
+
+    def on_day(self, day, told):
+        if self.time.dated:
+            return f"{self.time.begin.date() + datetime.timedelta(days=day)} {told}"
+        return told if day == 0 else f"{told} {day:+} d"
+
+    def window(self, first, last):
+        """From when to when a run of rows answers for its steps, earlier time first: from the row before the first."""
+        ends = sorted((first - 1, last), key=self.seconds)
+        return self.text(ends[0], ceil), self.text(ends[1], floor)
+
+    def heading(self):
+        return "time" if self.is_clock or self.time.scale.unit == "1" else f"time, {self.time.scale.unit}"
+
+
+def is_whole(number):
+    return number.denominator == 1
+
+
+def length(time, amount, rounded=near):
+    """A length of time in words, to a thousandth: in hours, minutes and seconds where the unit of time is known."""
+    kind = unit(time.scale.unit)
+    if kind is None or not kind.is_like(SECOND):
+        return decimal(amount, 2 * FINEST, rounded)
+    parts = rounded(amount * kind.size * 10**FINEST)
+    minutes, seconds = divmod(parts, 60 * 10**FINEST)
+    hours, minutes = divmod(minutes, 60)
+    told = decimal(Fraction(seconds, 10**FINEST), FINEST).rstrip("0").rstrip(".")
+    words = [f"{hours} h"] * (hours > 0) + [f"{minutes} min"] * (minutes > 0)
+    return " ".join(words + [f"{told} s"] * (seconds > 0 or not words))

@@ -1,0 +1,384 @@
+"""A description: what a person writes of a passage, in TOML, with names, metres, hours and degrees. README.md beside
+this has every entry. It is read exactly, and what cannot be taken is refused with its line."""
+
+import datetime
+import re
+from dataclasses import dataclass
+from decimal import Decimal
+from fractions import Fraction
+from functools import reduce
+
+import rates
+from entries import Lines, Refused, parse
+from units import SCALE, UNITS, Unit, measure, unit
+
+ENTRIES = {
+    (): {"title", "time", "accuracy", "constants", "quantity", "clearance"},
+    ("time",): {"unit", "whole", "begin", "step", "steps", "length"},
+    ("accuracy",): {"tail"},
+    ("clearance",): {"about", "unit", "whole", "weights", "base", "need", "for", "digits", "sill"},
+}
+QUANTITY_ENTRIES = {"about", "unit", "whole", "start", "good_to", "tolerance", "rate", "digits", "sill"}
+NAME = re.compile(r"[A-Za-z_]\w*", re.ASCII)
+LEAST_TAIL = 2
+DIGITS = 3
+MOST_DIGITS = 12
+MOST_DECIMAL_EXPONENT = 60
+MOST_SECONDS = 366 * 86400
+YEARS = range(2, 9999)
+NO_READING = NO_SILL = "none"
+
+
+@dataclass(frozen=True)
+class Scale:
+    """In which unit a person writes a quantity, and how many of it make 1 of the sheet."""
+
+    unit: str
+    whole: Fraction
+
+
+@dataclass(frozen=True)
+class Quantity:
+    """A quantity. Its start (None: no reading), how good that is and its tolerance (None: not given) are in wholes; its
+    sill (None: it has none), which is only drawn, is in its unit."""
+
+    name: str
+    about: str
+    scale: Scale
+    start: Fraction | None
+    good_to: Fraction
+    tolerance: Fraction | None
+    products: tuple
+    digits: int
+    sill: Fraction | None
+
+
+@dataclass(frozen=True)
+class Time:
+    """The sheet's time, in the description's unit: the step, with a minus where it goes back, and how many steps there
+    are; and the clock at the start (None: there is no clock)."""
+
+    scale: Scale
+    begin: datetime.datetime | None
+    dated: bool
+    step: Fraction
+    steps: int
+
+
+@dataclass(frozen=True)
+class Clearance:
+    """What a ship asks for: that base + the sum of weight * quantity is at least the need, for so many rows. All in the
+    clearance's own unit, the quantities in theirs. The need is None where the description has none."""
+
+    about: str
+    scale: Scale
+    weights: dict
+    base: Fraction
+    need: Fraction | None
+    rows: int
+    digits: int
+    sill: Fraction | None
+
+
+@dataclass(frozen=True)
+class Description:
+    title: str
+    time: Time
+    tail: int
+    quantities: tuple
+    clearance: Clearance | None
+    lines: Lines
+
+    def numbers(self):
+        """Each quantity's number in the sheet, by its name."""
+        return {quantity.name: number for number, quantity in enumerate(self.quantities, 1)}
+
+
+class Reader:
+    """Reads one description."""
+
+    def __init__(self, text):
+        self.tables = parse(text)
+        self.lines = Lines(text)
+
+    def refuse(self, why, *path):
+        raise Refused(self.lines.line(*path), why)
+
+    def table(self, *path):
+        """A table, empty where it is not there; what it holds must be known."""
+        found = self.tables
+        for name in path:
+            found = found.get(name, {})
+        if not isinstance(found, dict):
+            self.refuse(f"'{path[-1]}' is a table: [{'.'.join(path)}]", *path)
+        for name in found.keys() - ENTRIES.get(path, found.keys()):
+            self.refuse(f"'{name}' is no entry of {'.'.join(path) or 'a description'}", *path, name)
+        return found
+
+    def text(self, table, path, otherwise):
+        found = table.get(path[-1], otherwise)
+        if not isinstance(found, str) or not found.isprintable():
+            self.refuse(f"'{path[-1]}' is a text of one line", *path)
+        return found
+
+    def whole_number(self, table, path, otherwise, least, most):
+        found = table.get(path[-1], otherwise)
+        if type(found) is not int or not least <= found <= most:
+            self.refuse(f"'{path[-1]}' is a whole number from {least} to {most}", *path)
+        return found
+
+    def number(self, found, path):
+        """A plain number, exactly."""
+        if type(found) is int and abs(found) < 10**MOST_DECIMAL_EXPONENT:
+            return Fraction(found)
+        if isinstance(found, Decimal) and found.is_finite() and abs(found.adjusted()) < MOST_DECIMAL_EXPONENT:
+            return Fraction(found)
+        return self.refuse(f"'{path[-1]}' is a number", *path)
+
+    def in_unit(self, found, scale, path):
+        """A number in a scale's unit: a plain number, or a text with a unit of the same kind, as '4 cm'."""
+        if not isinstance(found, str):
+            return self.number(found, path)
+        parted = measure(found)
+        if parted is None:
+            return self.refuse(f"'{path[-1]}' is a number, or a text like '4 cm', and not '{found}'", *path)
+        number, text = parted
+        if text == scale.unit:
+            return number
+        given, wanted = unit(text), unit(scale.unit)
+        if given is None:
+            return self.refuse(
+                f"'{path[-1]}': '{text}' is no unit that is known here; these are: {', '.join(UNITS)}, and m/s and "
+                "the like",
+                *path,
+            )
+        if wanted is None or not given.is_like(wanted):
+            return self.refuse(f"'{path[-1]}': '{text}' cannot be turned into '{scale.unit}'", *path)
+        return number * given.size / wanted.size
+
+    def in_wholes(self, found, scale, path):
+        """A number of the sheet's wholes: from a scale's unit, or from units, as { units = 671089 }."""
+        if isinstance(found, dict):
+            units = found.get("units")
+            if found.keys() != {"units"} or type(units) is not int:
+                self.refuse(f"'{path[-1]}' is a number, a text like '4 cm', or {{ units = 671089 }}", *path)
+            return Fraction(units, SCALE)
+        return self.in_unit(found, scale, path) / scale.whole
+
+    def scale(self, table, path):
+        text = self.text(table, (*path, "unit"), "1")
+        whole = self.in_unit(table.get("whole", 1), Scale(text, Fraction(1)), (*path, "whole"))
+        if whole <= 0:
+            self.refuse("'whole' is more than 0", *path, "whole")
+        return Scale(text, whole)
+
+    def digits(self, table, path):
+        return self.whole_number(table, (*path, "digits"), DIGITS, 0, MOST_DIGITS)
+
+    def description(self):
+        self.table()
+        time = self.time()
+        tail = self.whole_number(self.table("accuracy"), ("accuracy", "tail"), LEAST_TAIL, 0, SCALE)
+        quantities = self.quantities(self.constants(time))
+        self.check_units(time, quantities)
+        title = self.text(self.tables, ("title",), "")
+        return Description(title, time, tail, quantities, self.clearance(time, quantities), self.lines)
+
+    def check_units(self, time, quantities):
+        """Where a product of quantities is of the kind that its rate has, as a speed is for a distance, it must be so
+        in its size too: a speed in kn brings no distance in m for each h, unless somebody has thought of the 1,852."""
+        units = {quantity.name: unit(quantity.scale.unit) for quantity in quantities}
+        tick = unit(time.scale.unit)
+        for quantity in quantities:
+            for product in quantity.products:
+                kinds = [units[name] for name in (quantity.name, *product.factors)]
+                if product.factors and tick is not None and None not in kinds:
+                    wanted, brought = kinds[0].over(tick), reduce(Unit.times, kinds[1:])
+                    if brought.is_like(wanted) and brought.size != wanted.size:
+                        self.refuse(
+                            f"'{product.text}' is no {quantity.scale.unit} for each {time.scale.unit}: choose units that fit, "
+                            "so that no factor is needed to turn them",
+                            "quantity",
+                            quantity.name,
+                            "rate",
+                        )
+
+    def time(self):
+        table = self.table("time")
+        scale = self.scale(table, ("time",))
+        if "step" not in table:
+            self.refuse("[time] has no 'step'", "time")
+        step = self.in_wholes(table["step"], scale, ("time", "step")) * scale.whole
+        if step == 0:
+            self.refuse("'step' is 0: no time would pass", "time", "step")
+        steps = self.steps(table, scale, step)
+        begin, dated = self.begin(table.get("begin"), scale)
+        if begin is not None and abs(step) * steps * unit(scale.unit).size > MOST_SECONDS:
+            self.refuse("a passage with a clock ends within a year", "time", "begin")
+        if dated and begin.year not in YEARS:
+            self.refuse(f"'begin' is in the years {YEARS[0]} to {YEARS[-1]}", "time", "begin")
+        return Time(scale, begin, dated, step, steps)
+
+    def steps(self, table, scale, step):
+        if ("steps" in table) == ("length" in table):
+            self.refuse("[time] has either 'steps' or 'length'", "time")
+        if "steps" in table:
+            return self.whole_number(table, ("time", "steps"), None, 1, 10**9)
+        length = self.in_unit(table["length"], scale, ("time", "length"))
+        steps = length / abs(step)
+        if length <= 0 or steps.denominator != 1:
+            self.refuse("'length' is not a whole number of steps, one at least", "time", "length")
+        return int(steps)
+
+    def begin(self, found, scale):
+        """The clock at the start, and whether its day is given."""
+        if found is None:
+            return None, False
+        if isinstance(found, str) and re.fullmatch(r"([01]?\d|2[0-3]):[0-5]\d", found):
+            found = datetime.time(*map(int, found.split(":")))
+        if isinstance(found, datetime.time):
+            found, dated = datetime.datetime.combine(datetime.date(2000, 1, 1), found), False
+        elif isinstance(found, datetime.datetime) and found.tzinfo is None:
+            dated = True
+        else:
+            self.refuse(
+                "'begin' is a time, 08:00:00 or \"08:00\", or a day and a time, 2026-11-17T08:00:00", "time", "begin"
+            )
+        kind = unit(scale.unit)
+        if kind is None or not kind.is_like(unit("s")):
+            self.refuse(f"there is no clock in '{scale.unit}': the unit of time is s, min, h or d", "time", "begin")
+        return found, dated
+
+    def constants(self, time):
+        return {name: self.constant(name, found, time) for name, found in self.table("constants").items()}
+
+    def constant(self, name, found, time):
+        """A plain number, or an angle for a time, as '28.9841042 deg/h', which becomes radians for the unit of time."""
+        path = ("constants", name)
+        if not NAME.fullmatch(name):
+            self.refuse(f"'{name}' is no name: a name has letters, digits and _", *path)
+        if not isinstance(found, str):
+            return self.number(found, path)
+        parted, tick = measure(found), unit(time.scale.unit)
+        given = unit(parted[1]) if parted else None
+        if given is None or tick is None or not given.is_like(UNIT_OF_NUMBERS.over(tick)):
+            self.refuse(
+                f"'{name}' is a number in the description's units, or an angle for a time like '28.98 deg/h'", *path
+            )
+        return parted[0] * given.size * tick.size
+
+    def quantities(self, constants):
+        tables = self.table("quantity")
+        if not tables:
+            self.refuse("there is no quantity: [quantity.NAME]", "quantity")
+        for name in tables:
+            if not NAME.fullmatch(name):
+                self.refuse(f"'{name}' is no name: a name has letters, digits and _", "quantity", name)
+            if name in constants or name == "clearance":
+                self.refuse(f"'{name}' has a meaning already", "quantity", name)
+        return tuple(self.quantity(name, constants, tuple(tables)) for name in tables)
+
+    def quantity(self, name, constants, names):
+        path = ("quantity", name)
+        table = self.table(*path)
+        for entry in table.keys() - QUANTITY_ENTRIES:
+            self.refuse(f"'{entry}' is no entry of a quantity", *path, entry)
+        scale = self.scale(table, path)
+        start = self.start(table, scale, path)
+        return Quantity(
+            name,
+            self.text(table, (*path, "about"), ""),
+            scale,
+            start,
+            self.good_to(table, scale, path),
+            self.tolerance(table, scale, path),
+            self.products(table, path, constants, names),
+            self.digits(table, path),
+            self.sill(table, scale, path, NO_SILL),
+        )
+
+    def start(self, table, scale, path):
+        """The reading; None where it says 'none' or is missing: never 0."""
+        found = table.get("start", NO_READING)
+        return None if found == NO_READING else self.in_wholes(found, scale, (*path, "start"))
+
+    def good_to(self, table, scale, path):
+        if "good_to" not in table:
+            self.refuse(f"'{path[-1]}' does not say how good its start is: good_to, 0 where it is known exactly", *path)
+        found = self.in_wholes(table["good_to"], scale, (*path, "good_to"))
+        if found < 0:
+            self.refuse("'good_to' is 0 or more", *path, "good_to")
+        return found
+
+    def tolerance(self, table, scale, path):
+        if "tolerance" not in table:
+            return None
+        return self.in_wholes(table["tolerance"], scale, (*path, "tolerance"))
+
+    def sill(self, table, scale, path, otherwise):
+        found = table.get("sill", otherwise)
+        return None if found == NO_SILL else self.in_unit(found, scale, (*path, "sill"))
+
+    def products(self, table, path, constants, names):
+        if "rate" not in table:
+            self.refuse(f"'{path[-1]}' has no rate: \"0\" where it stays as it is", *path)
+        text = table["rate"]
+        if not isinstance(text, str):
+            self.refuse("'rate' is a text, as \"m2 * rise\"", *path, "rate")
+        try:
+            return tuple(rates.read(text, constants, names))
+        except rates.Unreadable as fault:
+            raise Refused(self.lines.line_within((*path, "rate"), text, fault.place), fault.why) from fault
+
+    def clearance(self, time, quantities):
+        path = ("clearance",)
+        table = self.table(*path)
+        if "clearance" not in self.tables:
+            return None
+        scale = self.scale(table, path)
+        weights = table.get("weights")
+        if not isinstance(weights, dict) or not weights:
+            self.refuse("[clearance] has 'weights', as { water = 1 }", "clearance", "weights")
+        for name in weights.keys() - {quantity.name for quantity in quantities}:
+            self.refuse(f"'{name}' is no quantity of this description", "clearance", "weights", name)
+        for quantity in quantities:
+            given, wanted = unit(quantity.scale.unit), unit(scale.unit)
+            if quantity.name in weights and given and wanted and given.is_like(wanted) and given.size != wanted.size:
+                self.refuse(
+                    f"{quantity.name} is in {quantity.scale.unit} and the clearance in {scale.unit}: give both one unit",
+                    "clearance",
+                    "weights",
+                    quantity.name,
+                )
+        return Clearance(
+            self.text(table, (*path, "about"), "clearance"),
+            scale,
+            {name: self.number(weight, (*path, "weights", name)) for name, weight in weights.items()},
+            self.in_unit(table.get("base", 0), scale, (*path, "base")),
+            self.in_unit(table["need"], scale, (*path, "need")) if "need" in table else None,
+            self.rows(table.get("for"), time),
+            self.digits(table, path),
+            self.sill(table, scale, path, 0),
+        )
+
+    def rows(self, found, time):
+        """How many rows in a row a time takes, one where there is none."""
+        if found is None:
+            return 1
+        length = self.in_unit(found, time.scale, ("clearance", "for"))
+        if length <= 0:
+            self.refuse("'for' is more than 0", "clearance", "for")
+        return rows_of(length, time)
+
+
+UNIT_OF_NUMBERS = unit("1")
+
+
+def rows_of(length, time):
+    """The rows whose steps together are at least so long, in the description's unit of time."""
+    return -(-length // abs(time.step))
+
+
+def read(text):
+    """The description that a text is. Raises Refused."""
+    return Reader(text).description()
