@@ -178,7 +178,7 @@ class Reader:
     def description(self):
         self.table()
         time = self.time()
-        tail = self.whole_number(self.table("accuracy"), ("accuracy", "tail"), LEAST_TAIL, 0, SCALE)
+        tail = self.whole_number(self.table("accuracy"), ("accuracy", "tail"), LEAST_TAIL, LEAST_TAIL, SCALE)
         quantities = self.quantities(self.constants(time))
         self.check_units(time, quantities)
         title = self.text(self.tables, ("title",), "")

@@ -7,7 +7,7 @@ from fractions import Fraction
 from math import floor
 
 import programs
-from clock import FINEST, Clock, length
+from clock import Clock, length
 from description import Scale
 from refusals import ADVICE, MEANING, kept
 from units import SCALE, decimal, with_unit
@@ -73,7 +73,7 @@ class Names:
             return f"{decimal(Fraction(units, SCALE), FEWEST_PLACES, floor)} ({units} units)"
         time = self.description.time
         told = length(time, units * time.scale.whole / SCALE, floor)
-        return f"{units} units" if told in ("0 s", decimal(Fraction(0), 2 * FINEST)) else told
+        return told if set(told) & set("123456789") else f"{units} units"
 
 
 def line_words(names, fields):

@@ -2,6 +2,7 @@
 enough."""
 
 from dataclasses import dataclass
+from fractions import Fraction
 
 import programs
 from answer import Answer
@@ -26,7 +27,7 @@ class Search:
     """What was asked for, in the clearance's unit, and the runs of rows that are certain to have it; and each
     rounding."""
 
-    need: object
+    need: Fraction
     rows: int
     runs: tuple
     said: tuple

@@ -9,7 +9,7 @@ from entries import Refused
 from units import SCALE, near, shown, with_unit
 
 MOST_WEIGHT, MOST_NEED, MOST_RUN = 4 * SCALE, 32 * SCALE, 240
-FARTHEST = 1 << 31  # No low or high of the planner's lies farther from 0: `said` of clearance::run_and_find's contract.
+FARTHEST = 1 << 31  # No low or high lies farther from 0 in rows that the search takes: it refuses others with 10.
 
 
 @dataclass(frozen=True)

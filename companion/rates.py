@@ -5,12 +5,11 @@ import re
 from dataclasses import dataclass
 from fractions import Fraction
 
-TOKEN = re.compile(
-    r"\s*(?:(?P<number>(?:\d+\.?\d*|\.\d+)(?:[eE][+-]?\d{1,2})?)|(?P<name>[A-Za-z_]\w*)|(?P<sign>[-+*^]))", re.ASCII
-)
+from units import MOST_LETTERS, UNSIGNED
+
+TOKEN = re.compile(rf"\s*(?:(?P<number>{UNSIGNED})|(?P<name>[A-Za-z_]\w*)|(?P<sign>[-+*^]))", re.ASCII)
 MOST_FACTORS = 2
 POWERS = "123456789"
-MOST_LETTERS = 80
 MOST_BITS = 4000
 
 

@@ -17,9 +17,10 @@ ADVICE = {
     "quantity itself.",
     4: "Take a reading, and write it with how good it is.",
     5: "Lend more places: 7,920 suffice for every sheet.",
-    6: "Make the quantity's 'whole' larger, or take fewer steps. If it is the radius that has grown, see what helps against 8.",
-    7: "Take shorter steps, and more of them for the same time. It can help to choose the wholes so that the quantities are of "
-    "like size.",
+    6: "Write the quantity in a larger unit, in a description by a larger 'whole', or take fewer steps. If it is the radius that "
+    "has grown, see what helps against 8.",
+    7: "Take shorter steps, and more of them for the same time. It can help to write the quantities in units, in a description by "
+    "wholes, in which they are of like size.",
     8: "Allow a larger tolerance only if the ship can bear it. Else a smaller tail, a start known better, fewer steps, or other "
     "quantities for the same water: sheets/README.md, 'Writing a sheet whose radii stay small'.",
 }

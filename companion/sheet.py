@@ -11,7 +11,7 @@ from units import SCALE, decimal, near, shown, with_unit
 
 LIMIT = 32 * SCALE
 MOST_QUANTITIES, MOST_STEPS, MOST_TERMS = 8, 240, 32
-MOST_STEP, MOST_COEF, LEAST_TAIL = SCALE, 16 * SCALE, 2
+MOST_STEP, MOST_COEF = SCALE, 16 * SCALE
 FINEST_PART = 1000  # Of a step, by no more than which a rounded step may move a row from its time.
 
 
@@ -98,7 +98,7 @@ class Writer:
         if len(described.quantities) > MOST_QUANTITIES:
             extra = described.quantities[MOST_QUANTITIES].name
             self.refuse(f"'{extra}' is the ninth quantity, and a sheet has eight at most", "quantity", extra)
-        steps, step, tail, tol = self.steps(), self.step(), self.tail(), self.tol()
+        steps, step, tail, tol = self.steps(), self.step(), described.tail, self.tol()
         starts = tuple(self.start(quantity) for quantity in described.quantities)
         terms = tuple(self.terms())
         if len(terms) > MOST_TERMS:
@@ -145,9 +145,6 @@ class Writer:
                 f"{time.steps} stands {beside} or less beside its time"
             )
         return step
-
-    def tail(self):
-        return self.within(self.description.tail, LEAST_TAIL, SCALE, "tail", "accuracy", "tail")
 
     def tol(self):
         """The least tolerance, rounded down: the sheet has one for all quantities."""

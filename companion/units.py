@@ -58,9 +58,10 @@ def unit(text):
     return None
 
 
-MOST_LETTERS = 80
 SHORT = 9
-NUMBER = re.compile(r"[+-]?(\d+(\.\d*)?|\.\d+)([eE][+-]?\d{1,2})?")
+MOST_LETTERS = 80  # Of a number that is written out.
+UNSIGNED = r"(?:\d+\.?\d*|\.\d+)(?:[eE][+-]?\d{1,2})?"
+NUMBER = re.compile(rf"[+-]?{UNSIGNED}", re.ASCII)
 
 
 def measure(text):

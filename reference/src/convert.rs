@@ -4,7 +4,8 @@
 use crate::answer::ending;
 use crate::passage::{self, Refused};
 use crate::rows::{self, Parts};
-use crate::sheet::{LIMIT, Refusal, STEPS, Sheet, Start, read_stored, text};
+use crate::sheet::{Refusal, STEPS, Sheet, Start, read_stored, text};
+use crate::step::is_too_large;
 
 /// The steps of a long sheet's first part.
 pub const FIRST_STEPS: i64 = *STEPS.end();
@@ -58,7 +59,7 @@ fn split(sheet: &Sheet, rows: &mut [i64]) -> Result<[Sheet; 2], Refused> {
     };
     passage::run(&first, rows)?;
     let starts = last_row(&first, rows);
-    if starts.iter().any(is_too_large) {
+    if starts.iter().any(ends_here) {
         return Err(Refused {
             refusal: Refusal::ValueTooLarge,
             at: FIRST_STEPS as usize + 1,
@@ -84,9 +85,8 @@ fn last_row(sheet: &Sheet, rows: &[i64]) -> Vec<Start> {
     starts.collect()
 }
 
-/// Question 4.
-fn is_too_large(start: &Start) -> bool {
-    start
-        .value
-        .is_some_and(|value| value.abs() + start.radius > LIMIT)
+/// Whether question 4 refuses a step from a start.
+fn ends_here(start: &Start) -> bool {
+    let size = |value: i64| value.unsigned_abs() + start.radius as u64;
+    start.value.is_some_and(|value| is_too_large(size(value)))
 }
