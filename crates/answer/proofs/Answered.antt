@@ -10,24 +10,24 @@ use lib.ListN.{length, take}
 use lib.Seq.{take-all}
 use Rattle.model.specs.Answer.{answer, runText, runOf}
 use Rattle.model.specs.Rows.{width, places, written, rowsIn}
-use Rattle.model.specs.Bounds.{RowsPrintable}
+use Rattle.enclosure.specs.RowRange.{RowsPrintable}
 use Rattle.model.specs.Passage.{Run, passage, run, refused, placesNeeded, rowsWritten}
 use Rattle.model.specs.Reading.{readSheet}
 use Rattle.model.specs.Sheet.{most-bytes, most-quantities, most-steps, refusedStep, n-limits, headVerdict, no-head, sheetVerdictTo, sheetVerdict, refuses, no-sheet, inRange, ask, within, from_to_, _then_}
-use Rattle.model.specs.Trust.{TrustedOf, SpannedOf}
+use Rattle.enclosure.specs.Trust.{TrustedOf, SpannedOf}
 use Rattle.model.specs.declared.Outcome.{Outcome}
 use Rattle.model.specs.declared.Outcome.the-variants.{Accepted, Refused}
 use Rattle.model.specs.declared.Refusal.{Refusal}
 use Rattle.model.specs.declared.Refusal.the-variants.{OutOfRange}
 use Rattle.model.specs.declared.ReadSheet.{ReadSheet}
 use Rattle.model.specs.declared.Sheet.{Sheet}
-use Rattle.model.proofs.Readings.{accepted-is-acceptable, refused-is-zeros, read-from-front}
-use Rattle.model.proofs.Rows.{Wide, rows-in-written, places-length, written-length, rows-fit}
-use Rattle.model.proofs.Passages.{rows-of-passage, passage-refused, passage-runs}
-use Rattle.model.proofs.RowRange.{passage-in-range, passage-earlier, written-in-range, passage-step, passage-few, passage-fits}
-use Rattle.model.proofs.Spanned.{passage-spanned}
-use Rattle.model.proofs.Trusted.{passage-trusted}
-use Rattle.model.proofs.SheetBounds.{Counts, counts-of-sheet}
+use Rattle.laws.proofs.Readings.{accepted-is-acceptable, refused-is-zeros, read-from-front}
+use Rattle.laws.proofs.Rows.{Wide, rows-in-written, places-length, written-length, rows-fit}
+use Rattle.laws.proofs.Passages.{rows-of-passage, passage-refused, passage-runs}
+use Rattle.enclosure.proofs.RowRange.{passage-in-range, passage-earlier, written-in-range, passage-step, passage-few, passage-fits}
+use Rattle.enclosure.proofs.Spanned.{passage-spanned}
+use Rattle.enclosure.proofs.Trusted.{passage-trusted}
+use Rattle.laws.proofs.SheetBounds.{Counts, counts-of-sheet}
 use Rattle.answer.specs.declared.Ended.{Ended}
 use Rattle.rows.specs.Room.{HasRows}
 use Rattle.decimal.specs.Pieces.{Printed}

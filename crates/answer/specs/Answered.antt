@@ -10,7 +10,7 @@ use Rattle.model.specs.Rows.{written, rowsIn}
 use Rattle.model.specs.Passage.{Run, refused, passage}
 use Rattle.model.specs.Reading.{readSheet}
 use Rattle.model.specs.Sheet.{result, refusedStep}
-use Rattle.model.specs.Trust.{TrustedOf, SpannedOf}
+use Rattle.enclosure.specs.Trust.{TrustedOf, SpannedOf}
 use Rattle.model.specs.declared.Outcome.the-variants.{Accepted, Refused}
 use Rattle.decimal.specs.Pieces.{Printed}
 use Rattle.answer.specs.declared.Ended.{Ended}

@@ -6,9 +6,14 @@ ghost use lib.ListN.{length};
 ghost use Rattle.model.specs.Sheet.{result, refusedStep, Gives};
 ghost use Rattle.model.specs.Passage as passage;
 ghost use Rattle.passage.specs.Promise.{TrustedRows, SpannedRows};
-ghost use Rattle.clearance.specs.Asked.{NamesRow};
-ghost use Rattle.clearance.specs.Claim.{Said, SaidBy, SaidOf};
-ghost use Rattle.clearance.specs.Clearance as clearance;
+ghost use Rattle.clear_rule.specs.Asked.{NamesRow};
+ghost use Rattle.clear_rule.specs.Claim.{Said, SaidBy, SaidOf};
+ghost use Rattle.clear_rule.specs.Clearance as clearance;
+pub use clear_rule::Found;
+pub use clear_rule::Query;
+use clear_search::first_run;
+use clear_search::query_within;
+use clear_search::rows_within;
 use limits::natural_within;
 use model::Limits;
 use model::MOST_QUANTITIES;
@@ -20,29 +25,6 @@ use model::number;
 use passage::rows_written;
 use passage::run;
 use rows::width;
-
-mod questions;
-mod search;
-
-use crate::questions::query_within;
-use crate::questions::rows_within;
-use crate::search::first_run;
-
-// What is asked about the rows: a weight for each quantity, a base and a need, in units, and how many rows in a row.
-// Weights past the quantities mean nothing.
-pub struct Query {
-    pub weights: [i64; MOST_QUANTITIES],
-    pub base: i64,
-    pub need: i64,
-    pub run: usize,
-}
-
-// The number, from 1, of the first row that opens such a run; or there is none; or why nothing was looked for.
-pub enum Found {
-    At(usize),
-    Nowhere,
-    Refused(Refusal),
-}
 
 // A count of rows: 0..240.
 const COUNT: Limits = Limits {

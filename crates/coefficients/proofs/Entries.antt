@@ -9,7 +9,7 @@ use lib.IntN.{ℤ, pos, natAbs}
 use lib.ListN.{getD, set, length-set, replicate, length-replicate, getD-replicate, List·getD-eq-default}
 use lib.Seq.{getD-set-same, getD-set-other}
 use Rattle.model.specs.declared.Ball.{Ball}
-use Rattle.model.proofs.Ranges.{before-or-past}
+use Rattle.ranges.proofs.Ranges.{before-or-past}
 use Rattle.model.specs.Sheet.{most-quantities}
 use Rattle.products.specs.Table.{orders, table-places, place, ballAt, Table}
 use Rattle.coefficients.specs.Orders.{Written}

@@ -13,10 +13,10 @@ use Rattle.model.specs.Sheet.{scale, most-quantities}
 use Rattle.model.specs.Step.{Coefficients, coefficient, factor, productRadius, products, coefficientsTo}
 use Rattle.model.specs.declared.Ball.{Ball}
 use Rattle.model.specs.declared.Term.{Term}
-use Rattle.model.proofs.Ranges.{before-or-past, sum-equal, sumℤ-equal, length-tabulate}
-use Rattle.model.proofs.Tables.{coefficients-grow}
-use Rattle.model.specs.Bounds.{InBounds}
-use Rattle.model.proofs.Invariant.{greatest-le-most, coefficient-bounded}
+use Rattle.ranges.proofs.Ranges.{before-or-past, sum-equal, sumℤ-equal, length-tabulate}
+use Rattle.laws.proofs.Tables.{coefficients-grow}
+use Rattle.laws.specs.Bounds.{InBounds}
+use Rattle.laws.proofs.Invariant.{greatest-le-most, coefficient-bounded}
 use Rattle.products.specs.Table.{ballAt, tableIn, Small}
 use Rattle.coefficients.specs.Orders.{startIn, Filled}
 use Rattle.products.proofs.Places.{ball-equal, coefficient-in, coefficient-past}

@@ -7,17 +7,16 @@ use native.Mathlib.Nat.{le-refl, eq-or-lt-of-le}
 use native.Mathlib.Omega.{arith}
 use lib.IntN.{ℤ, pos}
 use lib.ListN.{length, getD, replicate, length-replicate}
-use Rattle.model.specs.Range.{sum, sumℤ}
+use Rattle.ranges.specs.Range.{sum, sumℤ}
 use Rattle.model.specs.Sheet.{most-quantities, no-term}
-use Rattle.model.specs.Exact.{bringsℤ}
-use Rattle.model.specs.Step.{Coefficients, most-degree, no-ball, reach, brings, share, coefficient, nextCoefficient, coefficientsTo}
-use Rattle.model.specs.Bounds.{InBounds}
+use Rattle.model.specs.Step.{bringsℤ, Coefficients, most-degree, no-ball, reach, brings, share, coefficient, nextCoefficient, coefficientsTo}
+use Rattle.laws.specs.Bounds.{InBounds}
 use Rattle.model.specs.declared.Ball.{Ball}
 use Rattle.model.specs.declared.Term.{Term}
-use Rattle.model.proofs.Ranges.{before-or-past, getD-tabulate, tabulate-equal}
-use Rattle.model.proofs.Tables.{Grows, coefficients-grow}
-use Rattle.model.proofs.Invariant.{factor-bounded}
-use Rattle.model.proofs.WorkingNumbers.{brought-fits}
+use Rattle.ranges.proofs.Ranges.{before-or-past, getD-tabulate, tabulate-equal}
+use Rattle.laws.proofs.Tables.{Grows, coefficients-grow}
+use Rattle.laws.proofs.Invariant.{factor-bounded}
+use Rattle.laws.proofs.WorkingNumbers.{brought-fits}
 use Rattle.products.specs.Table.{table-places, ballAt}
 use Rattle.coefficients.specs.Orders.{startIn, closed, Closed, Usable, Filled}
 use Rattle.coefficients.proofs.Entries.{getD-replicated}

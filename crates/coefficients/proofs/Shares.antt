@@ -10,17 +10,16 @@ use borrow.Author.Tests.{eq-eqb, ne-eqb}
 use lib.IntN.{ℤ, pos, natAbs, _+ℤ_, +ℤ-idr}
 use lib.ListN.{length, getD, set, length-set}
 use lib.Seq.{getD-set-same, getD-set-other}
-use Rattle.model.specs.Range as range
+use Rattle.ranges.specs.Range as range
 use Rattle.model.specs.Sheet.{most-quantities, no-term, listed}
-use Rattle.model.specs.Exact.{bringsℤ}
-use Rattle.model.specs.Step.{Coefficients, most-degree, no-ball, reach, brings, products, share, coefficientsTo}
+use Rattle.model.specs.Step.{bringsℤ, Coefficients, most-degree, no-ball, reach, brings, products, share, coefficientsTo}
 use Rattle.model.specs.declared.Ball.{Ball}
 use Rattle.model.specs.declared.Term.{Term}
 use Rattle.model.specs.declared.Terms.{Terms}
-use Rattle.model.specs.Bounds.{InBounds}
-use Rattle.model.proofs.Listed.{length-listed, getD-listed}
-use Rattle.model.proofs.Invariant.{factor-bounded}
-use Rattle.model.proofs.WorkingNumbers.{step-product-fits, term-product-fits, brought-fits}
+use Rattle.laws.specs.Bounds.{InBounds}
+use Rattle.laws.proofs.Listed.{length-listed, getD-listed}
+use Rattle.laws.proofs.Invariant.{factor-bounded}
+use Rattle.laws.proofs.WorkingNumbers.{step-product-fits, term-product-fits, brought-fits}
 use Rattle.model.specs.Rows.{ballIn}
 use Rattle.products.specs.Table.{tableIn, ShareFits}
 use Rattle.coefficients.specs.Orders.{startIn, Filled}

@@ -4,10 +4,10 @@ use mathlib.Core.List.{List}
 use mathlib.Core.Path.{_≡_}
 use lib.IntN.{ℤ}
 use Rattle.rounding.specs.Rounding.{near, up}
-use Rattle.model.specs.Range.{tabulate}
+use Rattle.ranges.specs.Range.{tabulate}
 use Rattle.model.specs.Sheet.{most-quantities}
 use Rattle.model.specs.Step.{no-ball, coefficient, coefficientsTo}
-use Rattle.model.specs.Bounds.{InBounds}
+use Rattle.laws.specs.Bounds.{InBounds}
 use Rattle.model.specs.declared.Ball.{Ball}
 use Rattle.model.specs.declared.Term.{Term}
 use Rattle.products.specs.Table.{orders, ballAt, Table}

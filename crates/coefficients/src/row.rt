@@ -2,7 +2,7 @@
 ghost use mathlib.Core.Path.{_≡_};
 ghost use Prim.Native.Nat.{_^_, _≤_, _<_};
 ghost use lib.Seq.{sets};
-ghost use Rattle.model.specs.Range.{tabulate};
+ghost use Rattle.ranges.specs.Range.{tabulate};
 ghost use Rattle.model.specs.Step as rule;
 ghost use Rattle.model.specs.Sheet.{«most-quantities»};
 ghost use Rattle.model.specs.Step.{«most-degree»};

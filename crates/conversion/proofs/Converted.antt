@@ -11,15 +11,15 @@ use borrow.Author.Tests.{le-leb, lt-leb}
 use lib.IntN.{ℤ}
 use lib.ListN.{length, getD, take}
 use lib.Seq.{take-all}
-use Rattle.model.specs.Range.{bytes}
+use Rattle.ranges.specs.Range.{bytes}
 use Rattle.model.specs.Sheet.{most-bytes, most-quantities, most-steps, stored-steps, number, result, refusedStep, passes, sheetVerdictTo, no-head, no-sheet}
 use Rattle.model.specs.Reading.{readSheetTo}
-use Rattle.model.specs.Step.{Row}
+use Rattle.model.specs.Step.{Row, no-row}
 use Rattle.model.specs.Passage.{small, Run, refused, run, passage, placesNeeded, rowsWritten, Kept}
 use Rattle.model.specs.Rows.{width, places, written, rowIn}
-use Rattle.model.specs.Trust.{no-row, TrustedOf, SpannedOf}
+use Rattle.enclosure.specs.Trust.{TrustedOf, SpannedOf}
 use Rattle.model.specs.Answer.{outcomeText}
-use Rattle.model.specs.Conversion.{sheetText, withSteps, firstPart, secondPart, lastBalls, partsText, splitText, convertedBy, converted, ComesOut}
+use Rattle.stored.specs.Conversion.{sheetText, withSteps, firstPart, secondPart, lastBalls, partsText, splitText, convertedBy, converted, ComesOut}
 use Rattle.model.specs.declared.Ball.{Ball}
 use Rattle.model.specs.declared.Sheet.{Sheet}
 use Rattle.model.specs.declared.ReadSheet.{ReadSheet}
@@ -27,16 +27,16 @@ use Rattle.model.specs.declared.Refusal.{Refusal}
 use Rattle.model.specs.declared.Refusal.the-variants.{Oversized, TooLarge}
 use Rattle.model.specs.declared.Outcome.{Outcome}
 use Rattle.model.specs.declared.Outcome.the-variants.{Accepted, Refused}
-use Rattle.model.proofs.Conversion.{first-passes, comes-out}
-use Rattle.model.proofs.Ranges.{before-or-past}
-use Rattle.model.proofs.Readings.{accepted-is-acceptable, refused-is-zeros, long-text-is-oversized, read-from-front}
-use Rattle.model.proofs.Lists as lists
-use Rattle.model.proofs.Spanned.{no-rows-spanned, passage-spanned}
-use Rattle.model.proofs.Trusted.{no-rows-trusted, passage-trusted}
-use Rattle.model.proofs.Rows.{Wide, rows-in-written, row-written, places-length, written-length, rows-fit}
-use Rattle.model.proofs.Passages.{rows-of-passage, passage-runs}
-use Rattle.model.proofs.RowRange.{passage-step, passage-fits}
-use Rattle.model.proofs.Verdicts.{few-in-sheet}
+use Rattle.stored.proofs.Conversion.{first-passes, comes-out}
+use Rattle.ranges.proofs.Ranges.{before-or-past}
+use Rattle.laws.proofs.Readings.{accepted-is-acceptable, refused-is-zeros, long-text-is-oversized, read-from-front}
+use Rattle.ranges.proofs.Lists as lists
+use Rattle.enclosure.proofs.Spanned.{no-rows-spanned, passage-spanned}
+use Rattle.enclosure.proofs.Trusted.{no-rows-trusted, passage-trusted}
+use Rattle.laws.proofs.Rows.{Wide, rows-in-written, row-written, places-length, written-length, rows-fit}
+use Rattle.laws.proofs.Passages.{rows-of-passage, passage-runs}
+use Rattle.enclosure.proofs.RowRange.{passage-step, passage-fits}
+use Rattle.laws.proofs.Verdicts.{few-in-sheet}
 use Rattle.rows.specs.Room.{HasRow}
 use Rattle.rows.proofs.Places.{has-row}
 use Rattle.decimal.specs.Pieces.{Printed}
@@ -48,22 +48,22 @@ use Rattle.conversion.specs.Converted.{convertedLent, splitLent, Trusted
 -- ---- the two parts
 
 module _ (sheet : Sheet) (balls : List Ball) where
-  pub parts-refused : small balls ≡ false → partsText sheet balls ≡ outcomeText (Refused TooLarge (suc most-steps))
+  pub parts-refused : small balls ≡ false → partsText most-steps sheet balls ≡ outcomeText (Refused TooLarge (suc most-steps))
   unfolding partsText
   parts-refused e = rw (e, partsText)
 
-  pub parts-printed : small balls ≡ true → partsText sheet balls ≡ sheetText (firstPart most-steps sheet) ++ bytes "\n" ++ sheetText (secondPart most-steps sheet balls)
+  pub parts-printed : small balls ≡ true → partsText most-steps sheet balls ≡ sheetText (firstPart most-steps sheet) ++ bytes "\n" ++ sheetText (secondPart most-steps sheet balls)
   unfolding partsText
   parts-printed e = rw (e, partsText)
 
 -- ---- a sheet of more steps than a passage may have
 
 module _ (sheet : Sheet) (first : Run) where
-  split-refused : {r : Refusal} {step : ℕ} → first .outcome ≡ Refused r step → splitText sheet first ≡ outcomeText (Refused r step)
+  split-refused : {r : Refusal} {step : ℕ} → first .outcome ≡ Refused r step → splitText most-steps sheet first ≡ outcomeText (Refused r step)
   unfolding splitText
   split-refused e = rw (e, splitText)
 
-  split-accepted : first .outcome ≡ Accepted → splitText sheet first ≡ partsText sheet (lastBalls (first .rows))
+  split-accepted : first .outcome ≡ Accepted → splitText most-steps sheet first ≡ partsText most-steps sheet (lastBalls (first .rows))
   unfolding splitText partsText
   split-accepted e = rw (e, splitText)
 
@@ -85,7 +85,7 @@ module _ (sheet : Sheet) {first : Sheet} (is : first ≡ firstPart most-steps sh
   unfolding lent
   kept-early = rw (kept .answer) (omega (arith, passage-step (firstPart most-steps sheet) (length before)))
 
-  pub kept-refused : {r : Refusal} {step : ℕ} → outcome ≡ Refused r step → outcomeText outcome ≡ splitText sheet (passage (firstPart most-steps sheet) (length before))
+  pub kept-refused : {r : Refusal} {step : ℕ} → outcome ≡ Refused r step → outcomeText outcome ≡ splitText most-steps sheet (passage (firstPart most-steps sheet) (length before))
   unfolding lent
   kept-refused told = ap outcomeText told ∙ sym (split-refused sheet lent (sym (kept .answer) ∙ told))
 
@@ -115,9 +115,9 @@ module _ (sheet : Sheet) {first : Sheet} (is : first ≡ firstPart most-steps sh
     last-is =
         ap (λ (row : Row). row .balls) last-row ∙ ap (λ (k : ℕ). getD (lent .rows) (k - 1) no-row .balls) (sym count)
 
-    pub kept-accepted : {balls : List Ball} → balls ≡ rowIn (sheet .head .n) after (most-steps - 1) .balls → partsText sheet balls ≡ splitText sheet (passage (firstPart most-steps sheet) (length before))
+    pub kept-accepted : {balls : List Ball} → balls ≡ rowIn (sheet .head .n) after (most-steps - 1) .balls → partsText most-steps sheet balls ≡ splitText most-steps sheet (passage (firstPart most-steps sheet) (length before))
     unfolding lent
-    kept-accepted read = ap (partsText sheet) (read ∙ last-is) ∙ sym (split-accepted sheet lent (sym (kept .answer) ∙ told))
+    kept-accepted read = ap (partsText most-steps sheet) (read ∙ last-is) ∙ sym (split-accepted sheet lent (sym (kept .answer) ∙ told))
 
 -- ---- a stored sheet, whatever its first part comes to
 
@@ -125,15 +125,15 @@ abbrev read-as : List ℕ → ReadSheet
 read-as text = readSheetTo stored-steps text
 
 module _ (runs : Sheet → Run) (text : List ℕ) where
-  by-refused : {r : Refusal} {step : ℕ} → read-as text .outcome ≡ Refused r step → convertedBy runs text ≡ outcomeText (Refused r step)
+  by-refused : {r : Refusal} {step : ℕ} → read-as text .outcome ≡ Refused r step → convertedBy most-steps stored-steps runs text ≡ outcomeText (Refused r step)
   unfolding convertedBy
   by-refused e = rw (e, convertedBy)
 
-  by-short : read-as text .outcome ≡ Accepted → read-as text .sheet .head .steps ≤ most-steps → convertedBy runs text ≡ text
+  by-short : read-as text .outcome ≡ Accepted → read-as text .sheet .head .steps ≤ most-steps → convertedBy most-steps stored-steps runs text ≡ text
   unfolding convertedBy
   by-short e short = rw (e, convertedBy, le-leb (read-as text .sheet .head .steps) most-steps short)
 
-  by-long : read-as text .outcome ≡ Accepted → most-steps < read-as text .sheet .head .steps → convertedBy runs text ≡ splitText (read-as text .sheet) (runs (firstPart most-steps (read-as text .sheet)))
+  by-long : read-as text .outcome ≡ Accepted → most-steps < read-as text .sheet .head .steps → convertedBy most-steps stored-steps runs text ≡ splitText most-steps (read-as text .sheet) (runs (firstPart most-steps (read-as text .sheet)))
   unfolding convertedBy
   by-long e long = rw (e, convertedBy, lt-leb (read-as text .sheet .head .steps) most-steps long)
 
@@ -201,9 +201,9 @@ module _ (text : List ℕ) {read : ReadSheet} (is : read ≡ read-as text) (befo
       short-unwritten = no-rows _ before (lent-short text (length before) (came told) (rw is at short))
 
     module _ (long : most-steps < read .sheet .head .steps) where
-      pub long-printed : splitText (read .sheet) (passage (firstPart most-steps (read .sheet)) (length before)) ≡ convertedLent text (length before)
+      pub long-printed : splitText most-steps (read .sheet) (passage (firstPart most-steps (read .sheet)) (length before)) ≡ convertedLent text (length before)
       unfolding convertedLent
-      long-printed = sym (by-long _ text (came told) (rw is at long) ∙ ap (λ (x : ReadSheet). splitText (x .sheet) (passage (firstPart most-steps (x .sheet)) (length before))) (sym is))
+      long-printed = sym (by-long _ text (came told) (rw is at long) ∙ ap (λ (x : ReadSheet). splitText most-steps (x .sheet) (passage (firstPart most-steps (x .sheet)) (length before))) (sym is))
 
       pub long-written : {after : List ℤ} → after ≡ written (passage (firstPart most-steps (read .sheet)) (length before) .rows) before → after ≡ written (splitLent text (length before) .rows) before
       long-written e =
@@ -246,10 +246,10 @@ enough-is-converted text places enough = go (read-as text .outcome) refl
     runs e long =
         passage-runs (firstPart most-steps (read-as text .sheet)) places (first-passes stored-steps most-steps most-steps (read-as text .sheet) (accepted-is-acceptable stored-steps text e .verdict) (omega arith) (le-refl most-steps)) (unfold placesNeeded firstPart withSteps in enough long)
 
-    go : (outcome : Outcome) → read-as text .outcome ≡ outcome → convertedBy (λ sheet. passage sheet places) text ≡ convertedBy run text
+    go : (outcome : Outcome) → read-as text .outcome ≡ outcome → convertedBy most-steps stored-steps (λ sheet. passage sheet places) text ≡ convertedBy most-steps stored-steps run text
     go (Refused r step) e = by-refused _ text e ∙ sym (by-refused run text e)
     go Accepted e =
-        ⊎-elim (λ (long : most-steps < read-as text .sheet .head .steps). by-long _ text e long ∙ ap (splitText (read-as text .sheet)) (runs e long) ∙ sym (by-long run text e long)) (λ (short : read-as text .sheet .head .steps ≤ most-steps). by-short _ text e short ∙ sym (by-short run text e short)) (before-or-past most-steps (read-as text .sheet .head .steps))
+        ⊎-elim (λ (long : most-steps < read-as text .sheet .head .steps). by-long _ text e long ∙ ap (splitText most-steps (read-as text .sheet)) (runs e long) ∙ sym (by-long run text e long)) (λ (short : read-as text .sheet .head .steps ≤ most-steps). by-short _ text e short ∙ sym (by-short run text e short)) (before-or-past most-steps (read-as text .sheet .head .steps))
 
 -- places for the most quantities are enough for every sheet
 pub most-are-enough : (text : List ℕ) (places : ℕ) → most-steps * width most-quantities ≤ places → convertedLent text places ≡ converted text

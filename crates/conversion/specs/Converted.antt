@@ -11,14 +11,14 @@ use Rattle.model.specs.Sheet.{most-steps, stored-steps}
 use Rattle.model.specs.Reading.{readSheetTo}
 use Rattle.model.specs.Passage.{Run, refused, passage}
 use Rattle.model.specs.Rows.{width, rowsIn}
-use Rattle.model.specs.Trust.{TrustedOf, SpannedOf}
-use Rattle.model.specs.Conversion.{firstPart, convertedBy, converted, ComesOut}
+use Rattle.enclosure.specs.Trust.{TrustedOf, SpannedOf}
+use Rattle.stored.specs.Conversion.{firstPart, convertedBy, converted, ComesOut}
 use Rattle.model.specs.declared.Outcome.the-variants.{Accepted, Refused}
 use Rattle.decimal.specs.Pieces.{Printed}
 
 -- what is printed for a stored sheet's bytes. With places enough it is `converted` of document 02 (proofs/Converted.antt).
 unfoldable pub convertedLent : List ℕ → ℕ → List ℕ
-convertedLent text places = convertedBy (λ sheet. passage sheet places) text
+convertedLent text places = convertedBy most-steps stored-steps (λ sheet. passage sheet places) text
 
 -- the run of its first part, where it has more steps than a passage may have; a refused sheet, or one of no more, runs nothing
 unfoldable pub splitLent : List ℕ → ℕ → Run

@@ -7,7 +7,7 @@ ghost use lib.ListN.{length, take};
 ghost use Rattle.model.specs.Sheet.{most-bytes, most-quantities, most-steps, stored-steps, passes, sheetVerdictTo, quantitiesHeld};
 ghost use Rattle.model.specs.Passage.{passage};
 ghost use Rattle.model.specs.Rows.{rowIn, ballsOf, written};
-ghost use Rattle.model.specs.Conversion as model;
+ghost use Rattle.stored.specs.Conversion as model;
 ghost use Rattle.rows.specs.Room.{HasRow};
 ghost use Rattle.answer.specs.Answered.{FrontOf};
 ghost use Rattle.decimal.specs.Pieces.{Put, Printed};
@@ -121,7 +121,7 @@ fn second_part(sheet: Sheet, balls: Balls) -> Sheet
 fn put_parts(text: &mut [u8], sheet: Sheet, balls: Balls) -> usize
     requires { ⌜ sheetVerdictTo stored-steps sheet ≡ passes ⌝ }
     requires { ⌜ most-steps < sheet .head .steps ⌝ }
-    ensures put { λ r. ⌜ Put (now (text .entry)) 0 (model.partsText sheet (ballsOf (sheet .head .n) balls)) r (now (text .exit)) ⌝ }
+    ensures put { λ r. ⌜ Put (now (text .entry)) 0 (model.partsText most-steps sheet (ballsOf (sheet .head .n) balls)) r (now (text .exit)) ⌝ }
     ensures bounded { λ r. ⌜ r ≤ most-bytes ⌝ }
 {
     if !small(sheet.head.n, &balls.values, &balls.radii) {
@@ -137,7 +137,7 @@ fn put_parts(text: &mut [u8], sheet: Sheet, balls: Balls) -> usize
 fn split(sheet: Sheet, rows: &mut [i64], text: &mut [u8]) -> usize
     requires { ⌜ sheetVerdictTo stored-steps sheet ≡ passes ⌝ }
     requires { ⌜ most-steps < sheet .head .steps ⌝ }
-    ensures put { λ r. ⌜ Put (now (text .entry)) 0 (model.splitText sheet (passage (model.firstPart most-steps sheet) (length (now (rows .entry))))) r (now (text .exit)) ⌝ }
+    ensures put { λ r. ⌜ Put (now (text .entry)) 0 (model.splitText most-steps sheet (passage (model.firstPart most-steps sheet) (length (now (rows .entry))))) r (now (text .exit)) ⌝ }
     ensures written { λ _. ⌜ now (rows .exit) ≡ written (passage (model.firstPart most-steps sheet) (length (now (rows .entry))) .rows) (now (rows .entry)) ⌝ }
     ensures bounded { λ r. ⌜ r ≤ most-bytes ⌝ }
 {

@@ -14,8 +14,8 @@ use borrow.Author.Tests.{ltb-true}
 use Rattle.rounding.proofs.Machine.{not-negative}
 use Rattle.model.specs.Answer.{decimal}
 use Rattle.decimal.specs.Pieces.{pair, sign}
-use Rattle.model.proofs.Ranges.{before-or-past}
-use Rattle.model.proofs.Fuel.{decimal-digit, decimal-digits}
+use Rattle.ranges.proofs.Ranges.{before-or-past}
+use Rattle.laws.proofs.Fuel.{decimal-digit, decimal-digits}
 
 -- ---- the sign
 

@@ -11,9 +11,9 @@ use mir.Syntax.{w64}
 use mir.Val.{SFits, toZ, ofZ}
 use mir.Facts.{toZ-ofZ}
 use Rattle.rounding.proofs.Machine.{sfits-abs}
-use Rattle.model.specs.Range.{bytes}
+use Rattle.ranges.specs.Range.{bytes}
 use Rattle.model.specs.Answer.{decimal, printed}
-use Rattle.model.proofs.Fuel.{length-below, length-signed, length-printed}
+use Rattle.laws.proofs.Fuel.{length-below, length-signed, length-printed}
 use Rattle.decimal.specs.Pieces.{Put, Room, most-line}
 use Rattle.decimal.proofs.Pieces.{put-same}
 

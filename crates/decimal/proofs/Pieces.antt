@@ -8,8 +8,8 @@ use native.Mathlib.Numerals.{add-one}
 use native.Mathlib.Omega.{arith}
 use lib.ListN.{length, set, take, drop, length-append, take-append-drop, drop-of-length-le}
 use lib.Seq.{sets, set-out, set-comm, sets-eq, length-sets, take-all, length-take-le, drop-length, take-append-seam, drop-append-seam}
-use Rattle.model.proofs.Ranges.{before-or-past}
-use Rattle.model.proofs.Stores.{sets-append}
+use Rattle.ranges.proofs.Ranges.{before-or-past}
+use Rattle.ranges.proofs.Stores.{sets-append}
 use Rattle.decimal.specs.Pieces.{Put, Printed, Room}
 
 pub put-nothing : (l : List ℕ) (i : ℕ) → Put l i [] i l

@@ -6,14 +6,14 @@ use mathlib.Core.Bool.{true, false}
 use mathlib.Core.List.{List, [], _∷_, _++_}
 use native.Mathlib.Omega.{arith}
 use borrow.Author.Tests.{le-leb}
-use Rattle.model.specs.Range.{bytes}
+use Rattle.ranges.specs.Range.{bytes}
 use Rattle.model.specs.declared.Limits.{Limits}
 use Rattle.model.specs.Sheet.{from_to_}
 use Rattle.model.specs.Reading.{Parsed, parsed, fault, Parser, _>>=_, line, field, signedField, end}
 use Rattle.model.specs.declared.Refusal.{Refusal}
 use Rattle.model.specs.declared.Refusal.the-variants.{Misspelt}
-use Rattle.model.proofs.Verdicts.{in-range}
-use Rattle.model.proofs.Parsers.{Delivers, delivers, faulty, Yields, yields-field}
+use Rattle.laws.proofs.Verdicts.{in-range}
+use Rattle.laws.proofs.Parsers.{Delivers, delivers, faulty, Yields, yields-field}
 use Rattle.lines.specs.Places.{rest, empty, spelling, lineAfter}
 use Rattle.lines.specs.Fields.{wholeRead, wholeAfter, naturalRead, naturalAfter}
 use Rattle.lines.specs.declared.fields.WholeLine.{WholeLine}

@@ -6,7 +6,7 @@ use mathlib.Core.Bool.{true, false}
 use mathlib.Core.List.{List, [], _∷_, _++_}
 use lib.Dec.{ltb}
 use lib.IntN.{ℤ, pos, negsuc}
-use Rattle.model.specs.Range.{bytes}
+use Rattle.ranges.specs.Range.{bytes}
 use Rattle.model.specs.Sheet.{result, refusedStep}
 use Rattle.model.specs.Reading.{readSheet}
 use Rattle.model.specs.Step.{Ball, Span, Row}

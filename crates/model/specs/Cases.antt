@@ -10,15 +10,14 @@ use mathlib.Core.Path.{_≡_}
 use lib.IntN.{ℤ, pos, negsuc, negℤ, _+ℤ_, _-ℤ_}
 use lib.ListN.{length, take, drop, replicate}
 use Rattle.rounding.specs.Rounding.{near, up}
-use Rattle.model.specs.Range.{bytes}
+use Rattle.ranges.specs.Range.{bytes}
 use Rattle.model.specs.Sheet.{most-steps, stored-steps, result, Gives, within, n-limits, steps-limits, stepWithin, tail-limits, tol-limits, start-limits, radius-limits, terms-limits, to-limits, coef-limits, first-limits, second-limits, quantitiesHeld, termsHeld, termsOf}
 use Rattle.model.specs.Reading.{Spelled, spelled, wrong, natural, signed, readSheetTo, readSheet}
 use Rattle.model.specs.LikeTerms.{gathered}
 use Rattle.model.specs.Step.{Row}
-use Rattle.model.specs.Passage.{passage}
-use Rattle.model.specs.Rows.{written}
+use Rattle.model.specs.Passage.{passage, rowsWritten}
+use Rattle.model.specs.Rows.{written, rowsIn}
 use Rattle.model.specs.Answer.{decimal, runOf, answer}
-use Rattle.model.specs.Conversion.{converted}
 use Rattle.model.specs.declared.Outcome.the-variants.{Accepted}
 use Rattle.model.specs.declared.Start.the-variants.{Reading, Missing}
 use Rattle.model.specs.declared.Quantity.{Quantity}
@@ -45,7 +44,7 @@ pub data Case : Type 0 where
   ends : String → ℕ → ℕ → Case
   -- a sheet is read, and with so many places its passage ends with a result
   lent : String → ℕ → ℕ → Case
-  -- a sheet is read, and a lent buffer that held the one list holds the other after its passage
+  -- a sheet is read, and a lent buffer that held the one list holds the other after its passage, and its rows are read back from there
   leaves : String → List ℤ → List ℤ → Case
   -- a sheet is read, and its terms are these
   reads : String → List Term → Case
@@ -57,8 +56,6 @@ pub data Case : Type 0 where
   takes : ℕ → String → ℕ → Case
   -- a sheet given as numbers, with no places lent, is refused by this number, before step 1
   judged : Sheet → ℕ → Case
-  -- a stored sheet is converted into this text
-  converts : String → String → Case
   -- the one list of terms is gathered into the other
   gathers : List Term → List Term → Case
   -- a range has these ends, and the numbers next to them are outside
@@ -77,7 +74,10 @@ Holds (opensAt sheet degree) = WasRead sheet × (map (λ row. row .degree) (firs
 Holds (ends sheet number step) = WasRead sheet × Gives (runOf (bytes sheet) .outcome) number step
 Holds (lent sheet places number) = WasRead sheet × Gives (passage (readSheet (bytes sheet) .sheet) places .outcome) number 0
 Holds (leaves sheet before after) =
-    WasRead sheet × (written (passage (readSheet (bytes sheet) .sheet) (length before) .rows) before ≡ after)
+    let read = readSheet (bytes sheet) .sheet in
+    WasRead sheet
+    × (written (passage read (length before) .rows) before ≡ after)
+    × (rowsIn (read .head .n) (rowsWritten read (passage read (length before) .outcome)) after ≡ passage read (length before) .rows)
 Holds (reads sheet terms) = WasRead sheet × (termsOf (readSheet (bytes sheet) .sheet) ≡ terms)
 Holds (alone sheet) =
     let read = readSheet (bytes sheet) .sheet in
@@ -87,7 +87,6 @@ Holds (alone sheet) =
 Holds (garbled count number) = Gives (runOf (replicate count (code "n")) .outcome) number 0
 Holds (takes high sheet number) = result (readSheetTo high (bytes sheet) .outcome) ≡ number
 Holds (judged sheet number) = Gives (passage sheet 0 .outcome) number 0
-Holds (converts sheet text) = converted (bytes sheet) ≡ bytes text
 Holds (gathers terms into) = gathered terms ≡ into
 Holds (spans range low high) =
     (map range (low ∷ high ∷ []) ≡ true ∷ true ∷ []) × (map range ((low -ℤ pos 1) ∷ (high +ℤ pos 1) ∷ []) ≡ false ∷ false ∷ [])
@@ -150,40 +149,10 @@ A terms = sheetLines "1" "4194304" "349526" "349534" "16777216" "0" terms
 unfoldable pub A-answer : String
 A-answer = "row=1\ndegree=2\nvalue=22020096\nradius=349534\nlow=11184802\nhigh=22369630\nresult=0\nat=0\n"
 
--- A with so many steps
-unfoldable pub A-of : String → String → String
-A-of steps terms = sheetLines steps "4194304" "349526" "349534" "16777216" "0" terms
-
--- no terms, with so many steps, a start and a radius
-unfoldable pub still : String → String → String → String
-still steps start radius = sheetLines steps "4194304" "349526" "7" start radius none
-
--- x' = 1, with so many steps, a step, a tail, a start and a radius
-unfoldable pub rising : String → String → String → String → String → String
-rising steps step tail start radius = sheetLines steps step tail "536870912" start radius (one "0" "0")
-
--- x' = 1 and y' = a × y × y, with so many steps, a start and radius of x and a radius of y about 0: the ratio grows with x
-unfoldable pub quickening : String → String → String → String → String
-quickening steps start radius other =
-    "n=2\nsteps=" & steps & "\nstep=167772\ntail=1000\ntol=536870912\nstart=" & start & "\nradius=" & radius & "\nstart=0\nradius=" & other & "\nterms=2\n"
-    & termLines "1" "16777216" "0" "0" & termLines "2" "246094005" "2" "2"
-
--- the same with a tolerance that the radius passes at step 241
-unfoldable pub tolerating : String → String → String → String
-tolerating steps start radius = sheetLines steps "4473000" "1000" "88986" start radius (one "0" "0")
-
 -- terms on x × x with these coefficients
 unfoldable pub squares : List String → String
 squares [] = ""
 squares (coef ∷ coefs) = termLines "1" coef "1" "1" & squares coefs
-
--- no change, over so many steps back with these terms
-unfoldable pub still-by : String → String → String
-still-by steps terms = sheetLines steps "-4194304" "349526" "7" "-5" "7" terms
-
--- a lone 0 and two terms that cancel
-unfoldable pub cancelling : String
-cancelling = "3\n" & termLines "1" "0" "1" "0" & squares ("5" ∷ "-5" ∷ [])
 
 -- two quantities of one whole, and then the terms
 unfoldable pub wholes : String → String
@@ -315,26 +284,8 @@ cases =
     ∷ gathers (term 1 (pos 5) 1 1 ∷ term 1 (pos 6) 1 2 ∷ term 1 (pos 0) 2 0 ∷ term 1 (pos 7) 2 2 ∷ []) (term 1 (pos 5) 1 1 ∷ term 1 (pos 6) 1 2 ∷ term 1 (pos 7) 2 2 ∷ [])
     ∷ gathers (term 1 (pos 5) 1 1 ∷ term 1 (negℤ (pos 5)) 1 1 ∷ []) []
     ∷ gathers (term 1 (pos 268435456) 0 0 ∷ term 1 (pos 268435456) 0 0 ∷ []) (term 1 (pos 536870912) 0 0 ∷ [])
-    -- stored sheets: refused as a sheet, of 401 steps and misspelt; of no more than 240 steps, whatever their passage does, and with a byte that is not as
-    -- it would be printed; longer ones, which are two sheets, the second from the last row; refused in the first 240 steps, and by question 4 after
-    -- them; question 5 is left to the second sheet
-    ∷ converts (A-of "401" square) "result=3\nat=0\n"
-    ∷ converts (A-of "400" (square & "\n")) "result=2\nat=0\n"
-    ∷ converts (A-of "1" square) (A-of "1" square)
-    ∷ converts (A-of "240" square) (A-of "240" square)
-    ∷ converts (still "241" "-5" "7") (still "240" "-5" "7" & "\n" & still "1" "-5" "7")
-    ∷ converts (still "400" "-5" "7") (still "240" "-5" "7" & "\n" & still "160" "-5" "7")
-    ∷ converts (rising "300" "4473000" "1000" "-536870912" "0") (rising "240" "4473000" "1000" "-536870912" "0" & "\n" & rising "60" "4473000" "1000" "536649088" "88986")
-    ∷ converts (A-of "241" square) "result=8\nat=2\n"
-    ∷ converts (rising "241" "4473925" "16" "-536870912" "0") "result=6\nat=241\n"
-    ∷ converts (quickening "241" "16777216" "0" "0") (quickening "240" "16777216" "0" "0" & "\n" & quickening "1" "57042496" "146066" "183224")
-    ∷ prints (quickening "1" "57042496" "146066" "183224") "result=7\nat=1\n"
-    -- question 4 alone is asked after them: of a value and a radius that a sheet may each have, and no other, so that a step 241 that is refused for
-    -- another reason leaves two sheets
-    ∷ converts (rising "241" "4473924" "1000" "-536870912" "0") "result=6\nat=241\n"
-    ∷ converts (tolerating "241" "-536870912" "0") (tolerating "240" "-536870912" "0" & "\n" & tolerating "1" "536649088" "88986")
-    -- the terms of both are those as read
-    ∷ converts (still-by "241" cancelling) (still-by "240" cancelling & "\n" & still-by "1" cancelling)
+    -- a ratio of a quarter and a hair is rounded up, so that the tail of degree 2 is over the limit
+    ∷ opensAt (sheetLines "1" "4194304" "349526" "536870912" "16777216" "0" ("1\n" & termLines "1" "16777217" "1" "1")) 3
     ∷ []
 
 -- ---- numbers, as they are printed

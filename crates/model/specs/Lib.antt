@@ -1,13 +1,8 @@
-pub mod Range
 pub mod Sheet
 pub mod Reading
-pub mod Exact
 pub mod LikeTerms
 pub mod Step
 pub mod Rows
 pub mod Passage
-pub mod Bounds
-pub mod Trust
 pub mod Answer
-pub mod Conversion
 pub mod Cases

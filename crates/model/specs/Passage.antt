@@ -6,7 +6,7 @@ use mathlib.Core.Path.{_≡_}
 use lib.Dec.{leb}
 use lib.IntN.{ℤ}
 use lib.ListN.{length, getD}
-use Rattle.model.specs.Range.{every}
+use Rattle.ranges.specs.Range.{every}
 use Rattle.model.specs.Sheet.{number, most, sheetVerdict, passes, refuses, termsOf, startsOf}
 use Rattle.model.specs.LikeTerms.{gathered}
 use Rattle.model.specs.Step.{Ball, no-ball, reach, greatest, ratio, Row, stepRow}

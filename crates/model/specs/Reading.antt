@@ -8,7 +8,7 @@ use lib.Dec.{leb, eqb}
 use mathlib.Core.Option.{Option, some, none}
 use lib.IntN.{ℤ, pos, negsuc, natAbs}
 use lib.ListN.{length}
-use Rattle.model.specs.Range.{bytes}
+use Rattle.ranges.specs.Range.{bytes}
 use Rattle.model.specs.Sheet.{most-bytes, most-digits, most-steps, Limits, within, stepWithin, quantitiesHeld, termsHeld, no-sheet, n-limits, steps-limits, tail-limits, tol-limits, start-limits, radius-limits, terms-limits, to-limits, coef-limits, first-limits, second-limits}
 use Rattle.model.specs.declared.Head.{Head}
 use Rattle.model.specs.declared.Start.{Start}

@@ -6,7 +6,7 @@ use mathlib.Core.Path.{_≡_}
 use lib.IntN.{ℤ, pos, negℤ, natAbs}
 use lib.ListN.{length, getD, take, replicate}
 use lib.Signed.{leZ}
-use Rattle.model.specs.Range.{tabulate}
+use Rattle.ranges.specs.Range.{tabulate}
 pub use Rattle.model.specs.declared.Limits.{Limits}
 use Rattle.model.specs.declared.Head.{Head}
 use Rattle.model.specs.declared.Ball.{Ball}

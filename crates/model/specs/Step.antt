@@ -6,9 +6,8 @@ use lib.Dec.{eqb, leb}
 use lib.IntN.{ℤ, pos, natAbs, _+ℤ_, _-ℤ_, _*ℤ_}
 use lib.ListN.{length, getD}
 use Rattle.rounding.specs.Rounding.{near, up}
-use Rattle.model.specs.Range.{sum, sumℤ, largest, tabulate, least}
+use Rattle.ranges.specs.Range.{sum, sumℤ, largest, tabulate, least}
 use Rattle.model.specs.Sheet.{scale, no-term}
-use Rattle.model.specs.Exact.{bringsℤ}
 use Rattle.model.specs.declared.Term.{Term}
 pub use Rattle.model.specs.declared.Ball.{Ball}
 pub use Rattle.model.specs.declared.Span.{Span}
@@ -38,6 +37,10 @@ factors term = cond (eqb (term .first) 0) 0 (cond (eqb (term .second) 0) 1 2)
 -- what a term brings to a target's sum: x where it is its target, else nothing
 unfoldable pub brings : ℕ → Term → ℕ → ℕ
 brings target term x = cond (eqb (term .to) target) x 0
+
+-- what a term brings to a quantity's sum: x where the quantity is its target, else nothing
+unfoldable pub bringsℤ : ℕ → Term → ℤ → ℤ
+bringsℤ target term x = cond (eqb (term .to) target) x (pos 0)
 
 -- |A| of a term with so many factors
 unfoldable pub coefOf : ℕ → Term → ℕ
@@ -132,6 +135,10 @@ pub record Row : Type 0 where
   pub degree : ℕ
   pub balls : List Ball
   pub spans : List Span
+
+-- what a list of rows reads as past its end, where no row is asked for
+unfoldable pub no-row : Row
+no-row = record { degree = 0; balls = []; spans = [] }
 
 -- the sum of c_0..c_d, and that of e_0..e_d plus the tail
 unfoldable pub newBall : Coefficients → ℕ → ℕ → ℕ → Ball

@@ -9,12 +9,12 @@ use native.Mathlib.Omega.{arith}
 use lib.Dec.{eqb}
 use lib.IntN.{ℤ, pos, negsuc, natAbs}
 use lib.ListN.{length, length-append}
-use Rattle.model.specs.Range.{bytes}
+use Rattle.ranges.specs.Range.{bytes}
 use Rattle.model.specs.Sheet.{most-digits}
 use Rattle.model.specs.Answer.{decimal}
 use Rattle.model.specs.Reading.{Spelled, spelled, wrong, isDigit, digits, natural, negated, signed, after, ended}
 use Rattle.decimal.specs.Pieces.{Put, Room, lineOf}
-use Rattle.model.proofs.Fuel.{length-signed}
+use Rattle.laws.proofs.Fuel.{length-signed}
 use Rattle.decimal.proofs.Pieces.{put-keeps-length}
 use Rattle.lines.specs.Places.{spelling, lineAfter}
 use Rattle.lines.proofs.Spellings.{digit-range}

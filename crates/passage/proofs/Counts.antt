@@ -3,13 +3,13 @@ use mathlib.Core.Path.{_≡_}
 use native.Mathlib.Omega.{arith}
 use Rattle.model.specs.Sheet.{scale, passes, sheetVerdict, verdictOutcome, listed, termsOf}
 use Rattle.model.specs.LikeTerms.{gathered}
-use Rattle.model.specs.Bounds.{Summable}
+use Rattle.laws.specs.Bounds.{Summable}
 use Rattle.model.specs.declared.Sheet.{Sheet}
 use Rattle.model.specs.declared.Terms.{Terms}
 use Rattle.model.specs.declared.Outcome.{Outcome}
 use Rattle.model.specs.declared.Outcome.the-variants.{Accepted}
-use Rattle.model.proofs.SheetBounds.{Counts, counts-of-sheet, bounds-of-sheet}
-use Rattle.model.proofs.GatheredBounds.{bounds-of-gathered}
+use Rattle.laws.proofs.SheetBounds.{Counts, counts-of-sheet, bounds-of-sheet}
+use Rattle.laws.proofs.GatheredBounds.{bounds-of-gathered}
 use Rattle.taylor.specs.Step.{CanStep}
 use Rattle.verdict.proofs.Verdicts.{passes-as}
 

@@ -6,20 +6,21 @@ use native.Mathlib.Omega.{arith}
 use lib.IntN.{ℤ, pos, _*ℤ_}
 use lib.ListN.{length, getD}
 use Rattle.model.specs.Sheet.{scale, result, refusedStep, Gives, passes, refuses, sheetVerdict, termsOf, startsOf}
-use Rattle.model.specs.Exact.{State, exactSum}
+use Rattle.enclosure.specs.Exact.{State, exactSum}
 use Rattle.model.specs.Passage.{placesNeeded, run, passage, refused, rowsWritten, Kept}
 use Rattle.model.specs.Rows.{places, written, rowIn, rowsIn}
-use Rattle.model.specs.Trust.{LiesWithin, LiesBetween, Tolerated, stateAfter, no-row, NoLower, Trusted, TrustedOf, startOf, Spanned, SpannedOf}
+use Rattle.enclosure.specs.Trust.{LiesWithin, LiesBetween, Tolerated, stateAfter, NoLower, Trusted, TrustedOf, startOf, Spanned, SpannedOf}
+use Rattle.model.specs.Step.{no-row}
 use Rattle.model.specs.declared.Sheet.{Sheet}
 use Rattle.model.specs.declared.Refusal.{Refusal}
 use Rattle.model.specs.declared.Refusal.the-variants.{TooFewPlaces}
 use Rattle.model.specs.declared.Outcome.{Outcome}
 use Rattle.model.specs.declared.Outcome.the-variants.{Refused}
-use Rattle.model.proofs.Ranges.{length-tabulate}
-use Rattle.model.proofs.Rows.{rows-in-written}
-use Rattle.model.proofs.Passages.{rows-of-passage, passage-refused, passage-too-few-places, passage-runs}
-use Rattle.model.proofs.Spanned.{passage-spanned}
-use Rattle.model.proofs.Trusted.{passage-trusted}
+use Rattle.ranges.proofs.Ranges.{length-tabulate}
+use Rattle.laws.proofs.Rows.{rows-in-written}
+use Rattle.laws.proofs.Passages.{rows-of-passage, passage-refused, passage-too-few-places, passage-runs}
+use Rattle.enclosure.proofs.Spanned.{passage-spanned}
+use Rattle.enclosure.proofs.Trusted.{passage-trusted}
 use Rattle.passage.specs.Promise.{TrustedRows, SpannedRows}
 
 module _ (sheet : Sheet) (buffer : List ℤ) where

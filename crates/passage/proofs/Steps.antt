@@ -15,14 +15,15 @@ use Rattle.model.specs.declared.Sheet.{Sheet}
 use Rattle.model.specs.declared.Outcome.the-variants.{Accepted}
 use Rattle.model.specs.declared.Term.{Term}
 use Rattle.model.specs.declared.Refusal.{Refusal}
-use Rattle.model.proofs.Ranges.{length-tabulate, getD-tabulate}
-use Rattle.model.proofs.Taken.{all-tolerated, step-taken, row-of-quantities}
+use Rattle.ranges.proofs.Ranges.{length-tabulate, getD-tabulate}
+use Rattle.laws.proofs.Taken.{step-taken, row-of-quantities}
+use Rattle.enclosure.proofs.Orders.{all-tolerated}
 use Rattle.taylor.specs.Step.{rowLaidOut, answered, advanceNumber, advanceDegree, degreeOf, Numbered}
 use Rattle.taylor.specs.declared.step.Numbers.{Numbers}
 use Rattle.taylor.specs.declared.step.Stepped.{Stepped}
 use Rattle.taylor.specs.declared.step.Advance.the-variants.{Moves, Stops}
 use Rattle.taylor.proofs.LaidOut.{balls-laid-out, spans-laid-out}
-use Rattle.model.proofs.Rows.{Quantities, length-balls}
+use Rattle.laws.proofs.Rows.{Quantities, length-balls}
 use Rattle.passage.specs.Promise.{stepOf}
 
 -- ---- a row or a refusal, where the definition's is

@@ -7,7 +7,7 @@ use Rattle.model.specs.Sheet.{most-steps, passes, refuses, sheetVerdict, termsO
 use Rattle.model.specs.LikeTerms.{gathered}
 use Rattle.model.specs.Passage.{Advance, stops, advance, rowsWritten}
 use Rattle.model.specs.Rows.{width, rowsIn}
-use Rattle.model.specs.Trust.{TrustedOf, SpannedOf}
+use Rattle.enclosure.specs.Trust.{TrustedOf, SpannedOf}
 use Rattle.model.specs.declared.Ball.{Ball}
 use Rattle.model.specs.declared.Head.{Head}
 use Rattle.model.specs.declared.Term.{Term}

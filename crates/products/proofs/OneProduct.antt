@@ -9,13 +9,13 @@ use lib.ListN.{getD}
 use mir.Syntax.{w64}
 use mir.Val.{toZ, ofZ}
 use Rattle.rounding.specs.Rounding.{near, up}
-use Rattle.model.specs.Range as range
+use Rattle.ranges.specs.Range as range
 use Rattle.model.specs.Sheet.{scale, most}
 use Rattle.model.specs.Step.{Coefficients, most-degree, reach, factor, productRadius, products}
 use Rattle.model.specs.declared.Ball.{Ball}
-use Rattle.model.proofs.Reach.{reach-product}
-use Rattle.model.proofs.Shares.{partialProducts}
-use Rattle.model.proofs.WorkingNumbers.{products-fit}
+use Rattle.laws.proofs.Reach.{reach-product}
+use Rattle.laws.proofs.Shares.{partialProducts}
+use Rattle.laws.proofs.WorkingNumbers.{products-fit}
 use Rattle.products.specs.Table.{orders, place, tableIn, Small, Reached, IsQuantity}
 use Rattle.products.proofs.Places.{ball-equal, factors-small, reach-in, value-kept, reached-at}
 

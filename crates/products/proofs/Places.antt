@@ -11,13 +11,13 @@ use mir.Syntax.{w64}
 use mir.Val.{toZ, ofZ}
 use mir.Facts.{toZ-ofZ}
 use Rattle.rounding.proofs.Machine.{sfits-abs}
-use Rattle.model.specs.Range.{tabulate}
+use Rattle.ranges.specs.Range.{tabulate}
 use Rattle.model.specs.Sheet.{scale, most, most-quantities}
 use Rattle.model.specs.Step.{most-degree, no-ball, reach, coefficient, factor}
 use Rattle.model.specs.declared.Ball.{Ball}
-use Rattle.model.proofs.Ranges.{before-or-past, getD-tabulate, getD-tabulate-past}
-use Rattle.model.proofs.Shares.{FactorsReach}
-use Rattle.model.proofs.WorkingNumbers.{value-le-reach}
+use Rattle.ranges.proofs.Ranges.{before-or-past, getD-tabulate, getD-tabulate-past}
+use Rattle.laws.proofs.Shares.{FactorsReach}
+use Rattle.laws.proofs.WorkingNumbers.{value-le-reach}
 use Rattle.products.specs.Table.{table-places, place, ballAt, tableIn, Table, Small, Reached, IsQuantity}
 
 -- ---- a ball by its parts

@@ -4,7 +4,7 @@ use mathlib.Core.List.{List}
 use mathlib.Core.Path.{_≡_}
 use lib.IntN.{ℤ, pos, natAbs}
 use lib.ListN.{length, getD}
-use Rattle.model.specs.Range.{tabulate}
+use Rattle.ranges.specs.Range.{tabulate}
 use Rattle.model.specs.Sheet.{most, most-quantities}
 use Rattle.model.specs.Step.{Coefficients, most-degree, reach, products, times}
 use Rattle.model.specs.declared.Ball.{Ball}

@@ -8,7 +8,7 @@ use native.Mathlib.Omega.{arith}
 use lib.IntN.{ℤ, pos, natAbs}
 use lib.ListN.{length, getD, set}
 use lib.Seq.{sets}
-use Rattle.model.specs.Range.{tabulate}
+use Rattle.ranges.specs.Range.{tabulate}
 use Rattle.model.specs.Step.{no-ball, no-span}
 use Rattle.model.specs.Rows.{parts, values-part, radii-part, lows-part, highs-part, width, degreePlace, partPlace, rowParts, rowPlaces, ballIn, ballsIn, ballsOf, spansOf, rowIn}
 use Rattle.model.specs.declared.Ball.{Ball}
@@ -16,8 +16,8 @@ use Rattle.model.specs.declared.Balls.{Balls}
 use Rattle.model.specs.declared.Span.{Span}
 use Rattle.model.specs.declared.Spans.{Spans}
 use Rattle.rows.specs.Room.{HasRow, HasRows}
-use Rattle.model.proofs.Ranges.{getD-tabulate, length-tabulate, map-tabulate}
-use Rattle.model.proofs.Stores.{sets-append}
+use Rattle.ranges.proofs.Ranges.{getD-tabulate, length-tabulate, map-tabulate}
+use Rattle.ranges.proofs.Stores.{sets-append}
 
 -- a part ends where the row does, or before
 pub part-fits : (n j p : ℕ) → p < parts → partPlace n j p n ≤ degreePlace n j + width n

@@ -5,7 +5,7 @@ ghost use mathlib.Core.List.{_++_};
 ghost use lib.IntN.{pos};
 ghost use lib.ListN.{getD};
 ghost use lib.Seq.{sets};
-ghost use Rattle.model.specs.Range.{tabulate};
+ghost use Rattle.ranges.specs.Range.{tabulate};
 ghost use Rattle.model.specs.Sheet.{most-quantities};
 ghost use Rattle.model.specs.Step.{no-ball, no-span};
 ghost use Rattle.model.specs.Rows as layout;

@@ -6,18 +6,18 @@ use native.Mathlib.Nat.{le-trans}
 use native.Mathlib.Omega.{arith}
 use lib.IntN.{ℤ, pos, negℤ, natAbs}
 use lib.ListN.{length, getD, replicate, length-append}
-use Rattle.model.specs.Range.{tabulate, bytes}
+use Rattle.ranges.specs.Range.{tabulate, bytes}
 use Rattle.model.specs.Sheet.{scale, most, most-quantities, stored-steps, most-terms, most-coef, passes, ask, _then_, inOrder, from_to_, ±_, within, n-limits, steps-limits, step-limits, stepWithin, tail-limits, tol-limits, start-limits, radius-limits, terms-limits, to-limits, coef-limits, first-limits, second-limits, inRange, stepVerdict, headVerdict, startVerdict, quantityVerdict, quantitiesVerdict, termVerdict, termsVerdict, no-quantity, no-term, sheetVerdictTo}
 use Rattle.model.specs.Answer.{digit, decimalBy, decimal, printed}
-use Rattle.model.specs.Conversion.{headText, startText, quantityText, termText, sheetText}
+use Rattle.stored.specs.Conversion.{headText, startText, quantityText, termText, sheetText}
 use Rattle.model.specs.declared.Head.{Head}
 use Rattle.model.specs.declared.Start.{Start}
 use Rattle.model.specs.declared.Start.the-variants.{Reading, Missing}
 use Rattle.model.specs.declared.Quantity.{Quantity}
 use Rattle.model.specs.declared.Term.{Term}
 use Rattle.model.specs.declared.Sheet.{Sheet}
-use Rattle.model.proofs.Verdicts.{both-pass, in-range, signed-magnitude, step-in-range, TermInRange, head-in-range, few-quantities, sheet-in-range}
-use Rattle.model.proofs.SheetBounds.{second-at-most}
+use Rattle.laws.proofs.Verdicts.{both-pass, in-range, signed-magnitude, step-in-range, TermInRange, head-in-range, few-quantities, sheet-in-range}
+use Rattle.laws.proofs.SheetBounds.{second-at-most}
 use Rattle.decimal.proofs.Lengths.{length-natural, length-whole}
 use Rattle.sheet_text.specs.Lengths.{most-head, most-start, most-quantity, most-term, most-sheet, TermShort}
 

@@ -5,12 +5,12 @@ use mathlib.Core.List.{List}
 use mathlib.Core.Path.{_≡_, refl, sym, ap, ap₂, _∙_}
 use native.Mathlib.Nat.{max-le}
 use native.Mathlib.Omega.{arith}
-use Rattle.model.proofs.Rows.{length-balls}
+use Rattle.laws.proofs.Rows.{length-balls}
 use borrow.Author.Tests.{le-leb, lt-leb}
 use lib.Dec.{leb}
 use lib.IntN.{ℤ}
 use lib.ListN.{length, getD}
-use Rattle.model.specs.Range.{every}
+use Rattle.ranges.specs.Range.{every}
 use Rattle.model.specs.Sheet.{scale, most}
 use Rattle.model.specs.Step.{Row, no-ball, reach, greatest, ratio, stepRow}
 use Rattle.model.specs.Passage as passage
@@ -20,17 +20,17 @@ use Rattle.model.specs.declared.Balls.{Balls}
 use Rattle.model.specs.declared.Head.{Head}
 use Rattle.model.specs.declared.Refusal.the-variants.{TooLarge, StepTooLong, Intolerable}
 use Rattle.model.specs.declared.Term.{Term}
-use Rattle.model.specs.Bounds.{TermsInBounds, InBounds}
+use Rattle.laws.specs.Bounds.{TermsInBounds, InBounds}
 use Rattle.model.specs.Rows.{ballIn, ballsIn, ballsOf, laidOut}
-use Rattle.model.proofs.Ranges.{below, largest-bounded}
-use Rattle.model.proofs.Invariant.{scale-le-greatest}
-use Rattle.model.proofs.Taken.{length-row}
-use Rattle.taylor.specs.Ratio.{Reaching}
+use Rattle.ranges.proofs.Ranges.{below, largest-bounded}
+use Rattle.laws.proofs.Invariant.{scale-le-greatest}
+use Rattle.laws.proofs.Taken.{length-row}
+use Rattle.ratio.specs.Ratio.{Reaching}
 use Rattle.taylor.specs.Step.{rowLaidOut, answered}
 use Rattle.taylor.specs.declared.step.Advance.the-variants.{Moves}
 use Rattle.taylor.specs.declared.step.Numbers.{Numbers}
 use Rattle.taylor.specs.declared.step.Stepped.{Stepped}
-use Rattle.taylor.proofs.Balls.{getD-balls, greatest-is}
+use Rattle.ratio.proofs.Balls.{getD-balls, greatest-is}
 use Rattle.taylor.proofs.LaidOut.{balls-laid-out}
 
 -- equal tests of each number have one answer

@@ -8,12 +8,12 @@ use native.Mathlib.Omega.{arith}
 use lib.IntN.{ℤ, pos}
 use lib.ListN.{length, getD, drop, replicate, length-map, length-replicate, List·getD-append, List·getD-map}
 use lib.Seq.{sets, sets-eq}
-use Rattle.model.specs.Range.{tabulate}
+use Rattle.ranges.specs.Range.{tabulate}
 use Rattle.model.specs.Sheet.{most-quantities, padded}
 use Rattle.model.specs.Step.{no-ball, no-span}
 use Rattle.model.specs.declared.Ball.{Ball}
 use Rattle.model.specs.declared.Span.{Span}
-use Rattle.model.proofs.Ranges.{length-tabulate, map-tabulate, tabulate-is}
+use Rattle.ranges.proofs.Ranges.{length-tabulate, map-tabulate, tabulate-is}
 use Rattle.model.specs.Rows.{ballIn, ballsIn, laidOut, spansOf, spansLaidOut}
 use Rattle.products.proofs.Places.{ball-equal}
 

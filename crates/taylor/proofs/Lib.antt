@@ -1,5 +1,3 @@
-mod Balls
-mod Ratios
 pub mod LaidOut
 mod StepRow
 pub mod Answers

@@ -5,11 +5,11 @@ use mathlib.Core.Path.{_≡_, ap, ap₂, _∙_}
 use native.Mathlib.Omega.{arith}
 use lib.IntN.{ℤ, pos, _+ℤ_, _-ℤ_}
 use lib.ListN.{length}
-use Rattle.model.specs.Range.{tabulate}
+use Rattle.ranges.specs.Range.{tabulate}
 use Rattle.model.specs.Step.{Coefficients, coefficient, coefficientsTo, reach, newBall, stepReach, newSpan, newRow}
 use Rattle.model.specs.declared.Ball.{Ball}
 use Rattle.model.specs.declared.Term.{Term}
-use Rattle.model.proofs.Ranges.{sum-equal, sumℤ-equal, tabulate-equal}
+use Rattle.ranges.proofs.Ranges.{sum-equal, sumℤ-equal, tabulate-equal}
 use Rattle.model.specs.Sheet.{most-quantities}
 use Rattle.model.specs.Rows.{ballIn, ballsIn, laidOut, spansLaidOut}
 use Rattle.products.specs.Table.{ballAt, tableIn}

@@ -7,13 +7,13 @@ use Rattle.model.specs.Sheet.{number, most-quantities}
 use Rattle.model.specs.Step.{most-degree, Row}
 use Rattle.model.specs.Rows.{laidOut, spansLaidOut, no-spans}
 use Rattle.model.specs.Passage as passage
-use Rattle.model.specs.Bounds.{TermsInBounds, InBounds}
+use Rattle.laws.specs.Bounds.{TermsInBounds, InBounds}
 use Rattle.model.specs.declared.Ball.{Ball}
 use Rattle.model.specs.declared.Balls.{Balls}
 use Rattle.model.specs.declared.Head.{Head}
 use Rattle.model.specs.declared.Term.{Term}
 use Rattle.coefficients.specs.Orders.{Usable}
-use Rattle.taylor.specs.declared.degree.Truncation.{Truncation}
+use Rattle.ratio.specs.declared.degree.Truncation.{Truncation}
 use Rattle.taylor.specs.declared.step.Advance.{Advance}
 use Rattle.taylor.specs.declared.step.Advance.the-variants.{Moves, Stops}
 use Rattle.taylor.specs.declared.step.Numbers.{Numbers}

@@ -1,10 +1,6 @@
-// One rounded step of document 01: its questions, ratio, degree and tail, and from values and radii to the next row.
-mod degree;
-mod ratio;
+// One rounded step of document 01: its questions, and from values and radii to the next row.
 mod step;
 
-pub use ratio::SUMS;
-pub use ratio::sums_of;
 pub use step::Advance;
 pub use step::Numbers;
 pub use step::Stepped;

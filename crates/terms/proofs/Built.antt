@@ -6,10 +6,10 @@ use native.Mathlib.Numerals.{add-one}
 use native.Mathlib.Omega.{arith}
 use lib.ListN.{length, getD, set, take, replicate, length-set, length-replicate}
 use lib.Seq.{getD-take, length-take-le, take-suc, take-set-le, take-set-lt, take-suc-set}
-use Rattle.model.specs.Range.{tabulate}
+use Rattle.ranges.specs.Range.{tabulate}
 use Rattle.model.specs.Sheet.{most-terms, no-term, listed}
 use Rattle.model.specs.declared.Term.{Term}
-use Rattle.model.proofs.Ranges.{tabulate-is}
+use Rattle.ranges.proofs.Ranges.{tabulate-is}
 
 -- the first j terms and the next one
 pub taken-more : (terms : List Term) (j : ℕ) (term : Term) → j < length terms → term ≡ getD terms j no-term → take (j + 1) terms ≡ take j terms ++ (term ∷ [])

@@ -6,7 +6,7 @@ ghost use lib.IntN.{natAbs, _+ℤ_};
 ghost use lib.Dec.{eqb};
 ghost use Rattle.model.specs.Sheet.{«most-terms», listed};
 ghost use Rattle.model.specs.LikeTerms as rule;
-ghost use Rattle.model.specs.Bounds.{Summable};
+ghost use Rattle.laws.specs.Bounds.{Summable};
 use model::MOST_TERMS;
 use model::Term;
 use model::Terms;

@@ -6,11 +6,11 @@ use native.Mathlib.Nat.{suc-mul, mul-le-mul-right}
 use native.Mathlib.Omega.{arith}
 use lib.IntN.{ℤ, pos, negℤ, natAbs}
 use lib.ListN.{length, getD, length-append}
-use Rattle.model.specs.Range.{tabulate, bytes}
+use Rattle.ranges.specs.Range.{tabulate, bytes}
 use Rattle.model.specs.Sheet.{most, most-quantities, most-steps, number, result, refusedStep}
 use Rattle.model.specs.Step.{no-ball, no-span, most-degree, Row}
 use Rattle.model.specs.Passage.{Run}
-use Rattle.model.specs.Bounds.{most-value, most-span, Printable}
+use Rattle.enclosure.specs.RowRange.{most-value, most-span, Printable}
 use Rattle.model.specs.Answer.{digit, decimalBy, decimal, printed, quantitiesText, rowsText, outcomeText, runText}
 use Rattle.model.specs.declared.Ball.{Ball}
 use Rattle.model.specs.declared.Span.{Span}
@@ -18,11 +18,11 @@ use Rattle.model.specs.declared.Outcome.{Outcome}
 use Rattle.model.specs.declared.Outcome.the-variants.{Accepted, Refused}
 use Rattle.model.specs.declared.Refusal.{Refusal}
 use Rattle.model.specs.declared.Refusal.the-variants.{Oversized, Misspelt, OutOfRange, NoReading, TooFewPlaces, TooLarge, StepTooLong, Intolerable, QueryOutOfRange, RowOutOfRange}
-use Rattle.model.proofs.Ranges.{getD-tabulate}
-use Rattle.model.proofs.Lists.{Each, none, entry-first}
-use Rattle.model.proofs.Rows.{Wide}
-use Rattle.model.proofs.Passages.{AllButLast, empty, last, earlier}
-use Rattle.model.proofs.RowRange.{Passed}
+use Rattle.ranges.proofs.Ranges.{getD-tabulate}
+use Rattle.ranges.proofs.Lists.{Each, none, entry-first}
+use Rattle.laws.proofs.Rows.{Wide}
+use Rattle.laws.proofs.Passages.{AllButLast, empty, last, earlier}
+use Rattle.enclosure.proofs.RowRange.{Passed}
 use Rattle.decimal.proofs.Lengths.{length-natural, length-whole}
 use Rattle.text.specs.Lengths.{passed-digits, value-digits, most-ball, span-digits, most-span-lines, most-quantity, most-row, most-outcome, most-answer}
 use Rattle.text.proofs.Lines.{quantityLines, quantity-first, rows-append}

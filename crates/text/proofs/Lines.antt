@@ -6,13 +6,13 @@ use native.Mathlib.Nat.{add-zero, add-suc, suc-add}
 use native.Mathlib.Omega.{arith}
 use lib.IntN.{ℤ, pos}
 use lib.ListN.{length, getD}
-use Rattle.model.specs.Range.{tabulate}
+use Rattle.ranges.specs.Range.{tabulate}
 use Rattle.model.specs.Step.{no-ball, no-span, Row}
 use Rattle.model.specs.Rows.{rowIn}
 use Rattle.model.specs.Answer.{printed, quantitiesText, rowsText}
 use Rattle.model.specs.declared.Ball.{Ball}
 use Rattle.model.specs.declared.Span.{Span}
-use Rattle.model.proofs.Ranges.{length-tabulate, tabulate-is}
+use Rattle.ranges.proofs.Ranges.{length-tabulate, tabulate-is}
 use Rattle.decimal.proofs.Pieces.{Grows}
 
 -- the lines of one quantity: of its ball, and of its span

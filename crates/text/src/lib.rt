@@ -7,7 +7,7 @@ ghost use mathlib.Core.List.{[], _∷_, _++_};
 ghost use lib.IntN.{pos, natAbs};
 ghost use lib.ListN.{length};
 ghost use Rattle.model.specs.Sheet.{most, most-steps, refusedStep};
-ghost use Rattle.model.specs.Bounds.{most-value, most-span, Printable, RowsPrintable};
+ghost use Rattle.enclosure.specs.RowRange.{most-value, most-span, Printable, RowsPrintable};
 ghost use Rattle.model.specs.Rows.{rowIn, rowsIn};
 ghost use Rattle.model.specs.Answer as answer;
 ghost use Rattle.rows.specs.Room.{HasRow, HasRows};

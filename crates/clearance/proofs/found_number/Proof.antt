@@ -12,11 +12,11 @@ use Rattle.rounding.proofs.Machine.{sfits-abs}
 use Rattle.model.specs.Sheet.{number, most-steps}
 use Rattle.model.specs.declared.Refusal.{Refusal}
 use Rattle.model.specs.declared.Refusal.the-variants.{Oversized, Misspelt, OutOfRange, NoReading, TooFewPlaces, TooLarge, StepTooLong, Intolerable, QueryOutOfRange, RowOutOfRange}
-use Rattle.clearance.specs.Asked.{NamesRow}
-use Rattle.clearance.specs.Clearance.{foundNumber}
-use Rattle.clearance.specs.declared.Found.{Found}
-use Rattle.clearance.specs.declared.Found.the-variants.{At, Nowhere, Refused}
-use Rattle.clearance.proofs.Ranges.{below-fits, bits-are}
+use Rattle.clear_rule.specs.Asked.{NamesRow}
+use Rattle.clear_rule.specs.Clearance.{foundNumber}
+use Rattle.clear_rule.specs.declared.Found.{Found}
+use Rattle.clear_rule.specs.declared.Found.the-variants.{At, Nowhere, Refused}
+use Rattle.clear_rule.proofs.Ranges.{below-fits, bits-are}
 use Rattle.clearance.proofs.found_number.Statement.{statement}
 use Rattle.clearance.proofs.found_number.Tie as tie
 

@@ -8,12 +8,12 @@ use lib.ListN.{length}
 use Rattle.model.specs.Passage.{passage, rowsWritten, Kept}
 use Rattle.model.specs.declared.Outcome.{Outcome}
 use Rattle.model.specs.declared.Sheet.{Sheet}
-use Rattle.clearance.specs.Clearance.{firstClear, foundNumber}
-use Rattle.clearance.specs.Claim.{SaidOf}
-use Rattle.clearance.specs.declared.Query.{Query}
-use Rattle.clearance.specs.declared.Found.{Found}
-use Rattle.clearance.proofs.Said.{Promised}
-use Rattle.clearance.proofs.OwnRows.{own-said}
+use Rattle.clear_rule.specs.Clearance.{firstClear, foundNumber}
+use Rattle.clear_rule.specs.Claim.{SaidOf}
+use Rattle.clear_rule.specs.declared.Query.{Query}
+use Rattle.clear_rule.specs.declared.Found.{Found}
+use Rattle.clear_rule.proofs.Said.{Promised}
+use Rattle.clear_rule.proofs.OwnRows.{own-said}
 use Rattle.clearance.proofs.run_and_find.Statement.{statement}
 use Rattle.clearance.proofs.run_and_find.Tie as tie
 

@@ -8,8 +8,8 @@ use mir.Facts.{toZ-ofZ}
 use Rattle.model.specs.Sheet.{most-quantities}
 use Rattle.model.specs.Step.{no-ball}
 use Rattle.model.specs.Rows.{rowIn, ballIn, ballsIn}
-use Rattle.model.proofs.Ranges.{tabulate-is}
-use Rattle.model.proofs.Stores.{Begins, begins-with-none, begins-with-one-more}
+use Rattle.ranges.proofs.Ranges.{tabulate-is}
+use Rattle.ranges.proofs.Stores.{Begins, begins-with-none, begins-with-one-more}
 use Rattle.text.proofs.Lines.{ballAt, length-row-balls}
 use Rattle.conversion.proofs.balls_of.Statement.{statement}
 use Rattle.conversion.proofs.balls_of.Tie as tie

@@ -1,6 +1,6 @@
 -- `conversion::first_part` meets its contract: the sheet with another head. Assumes nothing.
 use borrow.Author.Needs.{needs}
-use Rattle.model.specs.Conversion.{firstPart}
+use Rattle.stored.specs.Conversion.{firstPart}
 use Rattle.conversion.proofs.first_part.Statement.{statement}
 use Rattle.conversion.proofs.first_part.Tie as tie
 

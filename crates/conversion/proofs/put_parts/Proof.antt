@@ -6,21 +6,21 @@ use mathlib.Core.Path.{_≡_, sym, _∙_}
 use native.Mathlib.Omega.{arith}
 use borrow.Author.Needs.{needs}
 use borrow.Author.Tests.{not-true, not-false}
-use Rattle.model.specs.Range.{bytes}
+use Rattle.ranges.specs.Range.{bytes}
 use Rattle.model.specs.Sheet.{most-steps, stored-steps, refusedStep}
 use Rattle.model.specs.Passage.{small}
 use Rattle.model.specs.Rows.{ballsOf}
-use Rattle.model.specs.Conversion.{sheetText, firstPart, secondPart}
+use Rattle.stored.specs.Conversion.{sheetText, firstPart, secondPart}
 use Rattle.model.specs.declared.Ball.{Ball}
 use Rattle.model.specs.declared.Refusal.the-variants.{TooLarge}
 use Rattle.model.specs.declared.Outcome.the-variants.{Refused}
-use Rattle.model.proofs.Rows.{length-balls}
+use Rattle.laws.proofs.Rows.{length-balls}
 use Rattle.decimal.specs.Pieces.{Put}
 use Rattle.decimal.proofs.Pieces.{put-then, put-same}
 use Rattle.taylor.proofs.Answers.{small-is}
 use Rattle.sheet_text.specs.Lengths.{most-sheet}
-use Rattle.model.proofs.Conversion.{first-passes, second-passes}
-use Rattle.model.proofs.Verdicts.{few-in-sheet as few}
+use Rattle.stored.proofs.Conversion.{first-passes, second-passes}
+use Rattle.laws.proofs.Verdicts.{few-in-sheet as few}
 use Rattle.conversion.proofs.Converted.{parts-refused, parts-printed, length-refused}
 use Rattle.conversion.proofs.put_parts.Statement.{statement}
 use Rattle.conversion.proofs.put_parts.Tie as tie

@@ -5,7 +5,7 @@ use mathlib.Core.Path.{_≡_, ap, _∙_}
 use borrow.Author.Needs.{needs}
 use Rattle.model.specs.Sheet.{most-steps, quantitiesHeld}
 use Rattle.model.specs.Rows.{ballsOf}
-use Rattle.model.specs.Conversion.{withSteps, startingFrom, secondPart}
+use Rattle.stored.specs.Conversion.{withSteps, startingFrom, secondPart}
 use Rattle.model.specs.declared.Balls.{Balls}
 use Rattle.model.specs.declared.Head.{Head}
 use Rattle.model.specs.declared.Quantity.{Quantity}

@@ -9,15 +9,15 @@ use lib.IntN.{ℤ, pos}
 use lib.ListN.{getD, set, replicate}
 use lib.Seq.{sets}
 use mir.Facts.{toZ-ofZ}
-use Rattle.model.specs.Range.{tabulate}
+use Rattle.ranges.specs.Range.{tabulate}
 use Rattle.model.specs.Sheet.{most-quantities, no-quantity, padded, quantitiesHeld}
 use Rattle.model.specs.Rows.{ballIn, ballsIn, ballsOf}
-use Rattle.model.specs.Conversion.{startingFrom}
+use Rattle.stored.specs.Conversion.{startingFrom}
 use Rattle.model.specs.declared.Balls.{Balls}
 use Rattle.model.specs.declared.Quantity.{Quantity}
 use Rattle.model.specs.declared.Start.the-variants.{Reading}
-use Rattle.model.proofs.Ranges.{length-tabulate, map-tabulate}
-use Rattle.model.proofs.Stores.{stored-one-more}
+use Rattle.ranges.proofs.Ranges.{length-tabulate, map-tabulate}
+use Rattle.ranges.proofs.Stores.{stored-one-more}
 use Rattle.taylor.proofs.LaidOut.{stored-padded}
 use Rattle.conversion.proofs.starting_from.Statement.{statement}
 use Rattle.conversion.proofs.starting_from.Tie as tie

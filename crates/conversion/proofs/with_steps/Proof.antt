@@ -1,6 +1,6 @@
 -- `conversion::with_steps` meets its contract. Assumes nothing.
 use borrow.Author.Needs.{needs}
-use Rattle.model.specs.Conversion.{withSteps}
+use Rattle.stored.specs.Conversion.{withSteps}
 use Rattle.conversion.proofs.with_steps.Statement.{statement}
 use Rattle.conversion.proofs.with_steps.Tie as tie
 

@@ -8,7 +8,7 @@ use borrow.Author.Needs.{needs}
 use lib.IntN.{ℤ, pos, natAbs}
 use mir.Facts.{toZ-ofZ}
 use Rattle.rounding.proofs.Machine.{magnitude-is}
-use Rattle.model.specs.Range.{bytes}
+use Rattle.ranges.specs.Range.{bytes}
 use Rattle.model.specs.Answer.{decimal}
 use Rattle.decimal.specs.Pieces.{Put, Room, sign, lineOf}
 use Rattle.decimal.proofs.Decimal.{decimal-signed}

@@ -7,7 +7,7 @@ use borrow.Author.Needs.{needs}
 use lib.IntN.{natAbs}
 use lib.Seq.{length-take-le}
 use mir.Facts.{toZ-ofZ}
-use Rattle.model.specs.Range.{bytes}
+use Rattle.ranges.specs.Range.{bytes}
 use Rattle.lines.specs.Places.{spelledAt}
 use Rattle.lines.proofs.Spellings.{read-as}
 use Rattle.number_cases.proofs.Sizes.{room-for-line, read-small}

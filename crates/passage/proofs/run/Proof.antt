@@ -13,9 +13,9 @@ use Rattle.model.specs.Sheet.{most, passes, refuses, sheetVerdict, verdictOutco
 use Rattle.model.specs.LikeTerms.{gathered}
 use Rattle.model.specs.Passage.{placesNeeded, follow, run, passage, Kept}
 use Rattle.model.specs.Rows.{width, ballsOf}
-use Rattle.model.proofs.Rows.{rows-fit}
+use Rattle.laws.proofs.Rows.{rows-fit}
 use Rattle.verdict.proofs.Verdicts.{refuses-as}
-use Rattle.model.proofs.SheetBounds.{Counts}
+use Rattle.laws.proofs.SheetBounds.{Counts}
 use Rattle.passage.proofs.Counts.{passed, can-step, can-gather}
 use Rattle.passage.proofs.Kept.{kept-refused, kept-too-few-places, kept-run, promised}
 use borrow.Author.Needs.{needs}

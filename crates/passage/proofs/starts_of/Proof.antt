@@ -8,8 +8,8 @@ use lib.ListN.{getD}
 use mir.Facts.{toZ-ofZ}
 use Rattle.model.specs.Sheet.{most-quantities, no-quantity, startBall, startsOf}
 use Rattle.model.specs.Rows.{ballIn, ballsIn}
-use Rattle.model.proofs.Ranges.{tabulate-equal}
-use Rattle.model.proofs.Stores.{Begins, begins-with-none, begins-with-one-more}
+use Rattle.ranges.proofs.Ranges.{tabulate-equal}
+use Rattle.ranges.proofs.Stores.{Begins, begins-with-none, begins-with-one-more}
 use borrow.Author.Needs.{needs}
 use Rattle.passage.proofs.starts_of.Statement.{statement}
 use Rattle.passage.proofs.starts_of.Tie as tie

@@ -2,10 +2,10 @@
 use mathlib.Core.Path.{_≡_, sym, ap, _∙_}
 use Rattle.model.specs.Sheet.{passes, sheetVerdict, listed, termsOf}
 use Rattle.coefficients.proofs.Filling.{blank-usable}
-use Rattle.taylor.specs.Ratio.{SumsOf}
+use Rattle.ratio.specs.Ratio.{SumsOf}
 use Rattle.taylor.specs.Step.{CanStep, answered}
 use Rattle.verdict.proofs.Verdicts.{refuses-as}
-use Rattle.model.proofs.SheetBounds.{Counts}
+use Rattle.laws.proofs.SheetBounds.{Counts}
 use Rattle.passage.proofs.Counts.{passed, can-step, can-gather}
 use Rattle.passage.proofs.Steps.{with-its-number, step-of-refused, step-of-passing}
 use borrow.Author.Needs.{needs}

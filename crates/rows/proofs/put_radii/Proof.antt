@@ -8,8 +8,8 @@ use lib.ListN.{getD}
 use lib.Seq.{sets, length-sets}
 use mir.Facts.{toZ-ofZ}
 use Rattle.rounding.proofs.Machine.{sfits-abs}
-use Rattle.model.specs.Range.{tabulate}
-use Rattle.model.proofs.Stores.{stored-one-more}
+use Rattle.ranges.specs.Range.{tabulate}
+use Rattle.ranges.proofs.Stores.{stored-one-more}
 use Rattle.rows.proofs.put_radii.Statement.{statement}
 use Rattle.rows.proofs.put_radii.Tie as tie
 

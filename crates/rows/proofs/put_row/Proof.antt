@@ -11,7 +11,7 @@ use mir.Syntax.{w64}
 use mir.Val.{SFits, toZ, ofZ}
 use mir.Facts.{toZ-ofZ}
 use Rattle.rounding.proofs.Machine.{sfits-abs}
-use Rattle.model.specs.Range.{tabulate}
+use Rattle.ranges.specs.Range.{tabulate}
 use Rattle.model.specs.Rows.{values-part, radii-part, lows-part, width, degreePlace, partPlace, rowPlaces, ballsOf, spansOf}
 use Rattle.model.specs.declared.Balls.{Balls}
 use Rattle.model.specs.declared.Spans.{Spans}

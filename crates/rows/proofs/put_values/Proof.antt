@@ -7,8 +7,8 @@ use lib.IntN.{pos}
 use lib.ListN.{getD}
 use lib.Seq.{sets, length-sets}
 use mir.Facts.{toZ-ofZ}
-use Rattle.model.specs.Range.{tabulate}
-use Rattle.model.proofs.Stores.{stored-one-more}
+use Rattle.ranges.specs.Range.{tabulate}
+use Rattle.ranges.proofs.Stores.{stored-one-more}
 use Rattle.rows.proofs.put_values.Statement.{statement}
 use Rattle.rows.proofs.put_values.Tie as tie
 

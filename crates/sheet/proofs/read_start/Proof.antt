@@ -6,7 +6,7 @@ use mathlib.Core.List.{List}
 use mathlib.Core.Option.{some}
 use denote.Ref.{now}
 use lib.IntN.{ℤ}
-use Rattle.model.specs.Range.{bytes}
+use Rattle.ranges.specs.Range.{bytes}
 use Rattle.model.specs.Reading.{Parser, fault, return, _>>=_, start, after, signedField, line}
 use Rattle.model.specs.Sheet.{start-limits, ±_, most}
 use Rattle.model.specs.declared.Refusal.the-variants.{NoReading}

@@ -4,7 +4,7 @@ use mathlib.Core.Path.{_≡_, sym, _∙_}
 use denote.Ref.{now}
 use mir.Facts.{toZ-ofZ}
 use Rattle.rounding.proofs.Machine.{of-number}
-use Rattle.model.specs.Range.{bytes}
+use Rattle.ranges.specs.Range.{bytes}
 use Rattle.model.specs.Reading.{spelled, signed, line, step}
 use Rattle.model.specs.Sheet.{stepWithin}
 use Rattle.lines.specs.Places.{rest, spelledAt, spelling, lineAfter}

@@ -6,7 +6,7 @@ use mathlib.Core.List.{List}
 use native.Mathlib.Omega.{arith}
 use denote.Ref.{now}
 use mir.Facts.{toZ-ofZ}
-use Rattle.model.specs.Range.{bytes}
+use Rattle.ranges.specs.Range.{bytes}
 use Rattle.model.specs.Sheet.{to-limits, coef-limits, first-limits, ±_}
 use Rattle.model.specs.Reading.{parsed, return, term, field, signedField}
 use Rattle.lines.specs.Places.{rest}

@@ -5,7 +5,7 @@ use mathlib.Core.Path.{_≡_, refl, sym, ap, _∙_}
 use mathlib.Core.List.{List}
 use native.Mathlib.Omega.{arith}
 use denote.Ref.{now}
-use Rattle.model.specs.Range.{bytes}
+use Rattle.ranges.specs.Range.{bytes}
 use Rattle.model.specs.Sheet.{most-terms, from_to_, terms-limits, no-term, termsHeld}
 use Rattle.model.specs.Reading.{parsed, return, times, field, term, terms}
 use Rattle.model.specs.declared.Term.{Term}

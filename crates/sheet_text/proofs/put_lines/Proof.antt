@@ -6,10 +6,10 @@ use native.Mathlib.Omega.{arith}
 use borrow.Author.Needs.{needs}
 use lib.IntN.{pos}
 use lib.ListN.{length, getD}
-use Rattle.model.specs.Range.{tabulate, bytes}
+use Rattle.ranges.specs.Range.{tabulate, bytes}
 use Rattle.model.specs.Sheet.{no-quantity}
 use Rattle.model.specs.Answer.{printed}
-use Rattle.model.specs.Conversion.{headText, quantityText, sheetText}
+use Rattle.stored.specs.Conversion.{headText, quantityText, sheetText}
 use Rattle.decimal.specs.Pieces.{Put}
 use Rattle.decimal.proofs.Lengths.{natural-fits, line-asked, line-put, length-natural}
 use Rattle.decimal.proofs.Pieces.{put-then, put-keeps-length}

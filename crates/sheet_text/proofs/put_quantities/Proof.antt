@@ -4,11 +4,11 @@ use mathlib.Core.Path.{_≡_, ap}
 use mathlib.Core.List.{List, flatten}
 use native.Mathlib.Omega.{arith}
 use lib.ListN.{getD}
-use Rattle.model.specs.Range.{tabulate}
+use Rattle.ranges.specs.Range.{tabulate}
 use Rattle.model.specs.Sheet.{quantityVerdict, quantitiesVerdict, no-quantity}
-use Rattle.model.specs.Conversion.{quantityText}
+use Rattle.stored.specs.Conversion.{quantityText}
 use Rattle.model.specs.declared.Quantity.{Quantity}
-use Rattle.model.proofs.Verdicts.{each-passes}
+use Rattle.laws.proofs.Verdicts.{each-passes}
 use Rattle.decimal.specs.Pieces.{Put}
 use Rattle.decimal.proofs.Pieces.{Grows, put-nothing, put-turn, put-same, put-keeps-length}
 use Rattle.sheet_text.specs.Lengths.{most-quantity}

@@ -3,9 +3,9 @@ use mathlib.Core.List.{_++_}
 use native.Mathlib.Omega.{arith}
 use borrow.Author.Needs.{needs}
 use lib.IntN.{pos}
-use Rattle.model.specs.Range.{bytes}
+use Rattle.ranges.specs.Range.{bytes}
 use Rattle.model.specs.Answer.{printed}
-use Rattle.model.specs.Conversion.{startText, quantityText}
+use Rattle.stored.specs.Conversion.{startText, quantityText}
 use Rattle.decimal.specs.Pieces.{Put, Room}
 use Rattle.decimal.proofs.Lengths.{natural-fits, line-asked, line-put}
 use Rattle.decimal.proofs.Pieces.{put-then, room-rest}

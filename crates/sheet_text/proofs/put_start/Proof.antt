@@ -4,10 +4,10 @@ use mathlib.Core.Path.{_≡_, sym}
 use native.Mathlib.Omega.{arith}
 use borrow.Author.Needs.{needs}
 use lib.IntN.{ℤ, natAbs}
-use Rattle.model.specs.Range.{bytes}
+use Rattle.ranges.specs.Range.{bytes}
 use Rattle.model.specs.Sheet.{passes, startVerdict}
 use Rattle.model.specs.Answer.{printed}
-use Rattle.model.specs.Conversion.{startText}
+use Rattle.stored.specs.Conversion.{startText}
 use Rattle.model.specs.declared.Start.{Start}
 use Rattle.model.specs.declared.Start.the-variants.{Reading, Missing}
 use Rattle.decimal.specs.Pieces.{Room}

@@ -6,9 +6,9 @@ use borrow.Author.Needs.{needs}
 use lib.IntN.{pos}
 use mir.Syntax.{w64}
 use mir.Val.{SFits}
-use Rattle.model.specs.Range.{bytes}
+use Rattle.ranges.specs.Range.{bytes}
 use Rattle.model.specs.Answer.{printed}
-use Rattle.model.specs.Conversion.{termText}
+use Rattle.stored.specs.Conversion.{termText}
 use Rattle.model.specs.declared.Term.{Term}
 use Rattle.decimal.specs.Pieces.{Put, Room}
 use Rattle.decimal.proofs.Lengths.{natural-fits, line-asked, line-put, whole-asked, whole-put}

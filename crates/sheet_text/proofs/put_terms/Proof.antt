@@ -4,9 +4,9 @@ use mathlib.Core.Path.{_≡_, ap}
 use mathlib.Core.List.{List, flatten}
 use native.Mathlib.Omega.{arith}
 use lib.ListN.{getD}
-use Rattle.model.specs.Range.{tabulate}
+use Rattle.ranges.specs.Range.{tabulate}
 use Rattle.model.specs.Sheet.{no-term}
-use Rattle.model.specs.Conversion.{termText}
+use Rattle.stored.specs.Conversion.{termText}
 use Rattle.model.specs.declared.Term.{Term}
 use Rattle.decimal.specs.Pieces.{Put}
 use Rattle.decimal.proofs.Pieces.{Grows, put-nothing, put-turn, put-same, put-keeps-length}

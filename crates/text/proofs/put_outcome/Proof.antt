@@ -7,9 +7,9 @@ use borrow.Author.Needs.{needs}
 use lib.IntN.{pos}
 use lib.ListN.{length, take}
 use lib.Seq.{length-take-le}
-use Rattle.model.specs.Range.{tabulate, bytes}
+use Rattle.ranges.specs.Range.{tabulate, bytes}
 use Rattle.model.specs.Answer.{printed, outcomeText}
-use Rattle.model.proofs.Ranges.{length-tabulate}
+use Rattle.ranges.proofs.Ranges.{length-tabulate}
 use Rattle.decimal.specs.Pieces.{Put}
 use Rattle.decimal.proofs.Lengths.{natural-fits, line-asked, line-put}
 use Rattle.decimal.proofs.Pieces.{put-then, put-same, put-keeps-length, put-taken, room-first, room-rest}

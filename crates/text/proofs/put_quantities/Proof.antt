@@ -9,7 +9,7 @@ use lib.ListN.{length}
 use mir.Syntax.{w64}
 use mir.Val.{SFits, toZ, ofZ}
 use mir.Facts.{toZ-ofZ}
-use Rattle.model.specs.Range.{tabulate}
+use Rattle.ranges.specs.Range.{tabulate}
 use Rattle.model.specs.Rows.{rowIn}
 use Rattle.model.specs.Answer.{printed, quantitiesText}
 use Rattle.model.specs.declared.Ball.{Ball}

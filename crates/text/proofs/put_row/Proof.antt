@@ -8,7 +8,7 @@ use native.Mathlib.Omega.{arith}
 use borrow.Author.Needs.{needs}
 use lib.IntN.{ℤ, pos}
 use lib.ListN.{length, length-append}
-use Rattle.model.specs.Range.{bytes}
+use Rattle.ranges.specs.Range.{bytes}
 use Rattle.model.specs.Rows.{rowIn}
 use Rattle.model.specs.Answer.{printed, quantitiesText, rowsText}
 use Rattle.decimal.specs.Pieces.{Put, most-line}

@@ -8,7 +8,7 @@ use native.Mathlib.Omega.{arith}
 use lib.IntN.{ℤ}
 use lib.ListN.{length, take}
 use lib.Seq.{length-take-le}
-use Rattle.model.specs.Range.{tabulate}
+use Rattle.ranges.specs.Range.{tabulate}
 use Rattle.model.specs.Sheet.{most-quantities}
 use Rattle.model.specs.Rows.{rowIn, rowsIn}
 use Rattle.model.specs.Answer.{rowsText}

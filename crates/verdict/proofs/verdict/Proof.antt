@@ -5,7 +5,7 @@ use mathlib.Core.Bool.{Bool}
 use borrow.Author.Tests.{not-true, not-false}
 use Rattle.model.specs.Sheet.{most-steps, Verdict, passes, verdictOutcome, ask, _then_, headVerdict, quantitiesVerdict, sheetVerdictTo, sheetVerdict}
 use Rattle.model.specs.declared.Refusal.the-variants.{OutOfRange}
-use Rattle.model.proofs.Verdicts.{few-quantities}
+use Rattle.laws.proofs.Verdicts.{few-quantities}
 use Rattle.verdict.proofs.Verdicts.{passes-as, refused-first, verdict-numbered}
 use borrow.Author.Needs.{needs}
 use Rattle.verdict.proofs.verdict.Statement.{statement}

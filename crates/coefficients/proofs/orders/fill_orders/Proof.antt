@@ -15,7 +15,7 @@ use Rattle.model.specs.Step.{most-degree, no-ball, coefficientsTo}
 use Rattle.model.specs.Rows.{ballIn}
 use Rattle.model.specs.declared.Ball.{Ball}
 use Rattle.model.specs.declared.Terms.{Terms}
-use Rattle.model.proofs.Listed.{length-listed, few-listed}
+use Rattle.laws.proofs.Listed.{length-listed, few-listed}
 use Rattle.coefficients.specs.Orders.{startIn, Fillable, Filled}
 use Rattle.coefficients.proofs.Entries.{getD-replicated}
 use Rattle.coefficients.proofs.Filled.{length-start}

@@ -12,12 +12,12 @@ use mir.Syntax.{w64}
 use mir.Val.{SFits, toZ, ofZ}
 use mir.Facts.{toZ-ofZ}
 use Rattle.rounding.proofs.Machine.{sfits-abs}
-use Rattle.model.specs.Range.{sum, sumℤ}
+use Rattle.ranges.specs.Range.{sum, sumℤ}
 use Rattle.model.specs.Sheet.{most, most-quantities}
 use Rattle.model.specs.Step.{most-degree, reach, coefficient, newBall}
 use Rattle.model.specs.declared.Ball.{Ball}
-use Rattle.model.proofs.Ranges.{sum-suc, sumℤ-suc, sum-equal, sumℤ-equal}
-use Rattle.model.proofs.Reach.{reach-sums-bounded}
+use Rattle.ranges.proofs.Ranges.{sum-suc, sumℤ-suc, sum-equal, sumℤ-equal}
+use Rattle.laws.proofs.Reach.{reach-sums-bounded}
 use Rattle.products.specs.Table.{orders, place, ballAt, tableIn, Small}
 use Rattle.products.proofs.Places.{ball-equal, coefficient-in}
 use borrow.Author.Needs.{needs}

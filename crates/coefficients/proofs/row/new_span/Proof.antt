@@ -13,11 +13,11 @@ use mir.Val.{SFits, toZ, ofZ}
 use mir.Facts.{toZ-ofZ}
 use Rattle.rounding.proofs.Integers.{abs-add, abs-sub-le}
 use Rattle.rounding.proofs.Machine.{sfits-abs, magnitude-is}
-use Rattle.model.specs.Range.{sum}
+use Rattle.ranges.specs.Range.{sum}
 use Rattle.model.specs.Sheet.{most, most-quantities}
 use Rattle.model.specs.Step.{most-degree, reach, coefficient, stepReach, newSpan}
 use Rattle.model.specs.declared.Ball.{Ball}
-use Rattle.model.proofs.Ranges.{sum-suc, sum-le, sum-constant, sum-equal}
+use Rattle.ranges.proofs.Ranges.{sum-suc, sum-le, sum-constant, sum-equal}
 use Rattle.products.specs.Table.{orders, place, ballAt, tableIn, Table, Small}
 use Rattle.products.proofs.Places.{coefficient-in}
 use borrow.Author.Needs.{needs}

@@ -10,14 +10,14 @@ use mir.Facts.{toZ-ofZ}
 use Rattle.model.specs.Sheet.{most, most-quantities, listed}
 use Rattle.model.specs.Step.{most-degree, reach, newBall, newSpan}
 use Rattle.model.specs.Rows.{ballIn, ballsIn}
-use Rattle.model.specs.Bounds.{InBounds}
+use Rattle.laws.specs.Bounds.{InBounds}
 use Rattle.model.specs.declared.Ball.{Ball}
 use Rattle.model.specs.declared.Term.{Term}
 use Rattle.products.specs.Table.{tableIn, Small}
 use Rattle.coefficients.specs.Orders.{startIn, Filled}
 use Rattle.coefficients.proofs.Filled.{filled-small}
-use Rattle.model.proofs.Rows.{length-balls}
-use Rattle.taylor.proofs.Balls.{getD-balls}
+use Rattle.laws.proofs.Rows.{length-balls}
+use Rattle.ratio.proofs.Balls.{getD-balls}
 use Rattle.taylor.proofs.LaidOut.{stored-laid-out, stored-spans}
 use Rattle.taylor.proofs.StepRow.{start-is, row-is}
 use Rattle.taylor.proofs.step.row_of.Statement.{statement}

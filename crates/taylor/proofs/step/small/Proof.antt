@@ -12,11 +12,11 @@ use lib.ListN.{getD}
 use mir.Syntax.{w64}
 use mir.Val.{SFits, toZ, ofZ}
 use mir.Facts.{toZ-ofZ}
-use Rattle.model.specs.Range as range
+use Rattle.ranges.specs.Range as range
 use Rattle.model.specs.Sheet.{most}
 use Rattle.model.specs.Step.{reach}
 use Rattle.model.specs.Rows.{ballIn}
-use Rattle.model.proofs.Tests.{every-none, every-more, every-fails}
+use Rattle.ranges.proofs.Tests.{every-none, every-more, every-fails}
 use borrow.Author.Needs.{needs}
 use Rattle.taylor.proofs.step.small.Statement.{statement}
 use Rattle.taylor.proofs.step.small.Tie as tie

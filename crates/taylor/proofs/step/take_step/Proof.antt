@@ -5,7 +5,7 @@ use mathlib.Core.Bool.{true}
 use mathlib.Core.List.{List}
 use mathlib.Core.Path.{_≡_, sym, ap, _∙_}
 use native.Mathlib.Omega.{arith}
-use Rattle.model.proofs.Rows.{length-balls}
+use Rattle.laws.proofs.Rows.{length-balls}
 use borrow.Author.Needs.{needs}
 use borrow.Author.Tests.{not-true, not-false, leb-true}
 use lib.Dec.{leb}
@@ -13,7 +13,7 @@ use lib.ListN.{length}
 use mir.Syntax.{w64}
 use mir.Val.{toZ, ofZ}
 use mir.Facts.{toZ-ofZ}
-use Rattle.model.specs.Range.{every}
+use Rattle.ranges.specs.Range.{every}
 use Rattle.model.specs.Sheet.{most, listed}
 use Rattle.model.specs.Step.{Row, reach, greatest, ratio, degree, tailAt, newRow, stepRow}
 use Rattle.model.specs.Passage.{most-ratio}
@@ -21,12 +21,12 @@ use Rattle.model.specs.Rows.{ballIn, ballsOf}
 use Rattle.model.specs.declared.Ball.{Ball}
 use Rattle.model.specs.declared.Head.{Head}
 use Rattle.model.specs.declared.Term.{Term}
-use Rattle.model.proofs.Verdicts.{every-holds}
-use Rattle.model.proofs.Degree.{IsDegree, degree-is-least}
-use Rattle.taylor.specs.Ratio.{Reaching}
+use Rattle.laws.proofs.Verdicts.{every-holds}
+use Rattle.laws.proofs.Degree.{IsDegree, degree-is-least}
+use Rattle.ratio.specs.Ratio.{Reaching}
 use Rattle.taylor.specs.Step.{rowLaidOut}
 use Rattle.taylor.specs.declared.step.Numbers.{Numbers}
-use Rattle.taylor.proofs.Ratios as ratios
+use Rattle.ratio.proofs.Ratios as ratios
 use Rattle.taylor.proofs.Answers.{too-large, too-long, intolerable, moved, greatest-within, in-bounds}
 use Rattle.taylor.proofs.step.take_step.Statement.{statement}
 use Rattle.taylor.proofs.step.take_step.Tie as tie

@@ -8,8 +8,8 @@ use native.Mathlib.Omega.{arith}
 use borrow.Author.Tests.{le-leb, lt-leb}
 use lib.Dec.{leb}
 use lib.ListN.{getD}
-use Rattle.model.specs.Range as range
-use Rattle.model.proofs.Tests.{every-none, every-more, every-fails}
+use Rattle.ranges.specs.Range as range
+use Rattle.ranges.proofs.Tests.{every-none, every-more, every-fails}
 use Rattle.taylor.proofs.step.tolerable.Statement.{statement}
 use Rattle.taylor.proofs.step.tolerable.Tie as tie
 

@@ -1,0 +1,1 @@
+// No code: specs/ has definitions, proofs/ what is proved of them.

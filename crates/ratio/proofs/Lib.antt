@@ -1,0 +1,2 @@
+pub mod Balls
+pub mod Ratios

@@ -1,0 +1,4 @@
+pub mod RoundTrip
+pub mod Parts
+pub mod Conversion
+pub mod Cases
