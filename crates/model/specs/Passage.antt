@@ -101,6 +101,14 @@ passage sheet places =
       | passes ↦ elim (leb (placesNeeded sheet) places) [ true ↦ run sheet | false ↦ refused TooFewPlaces 0 ]
     ]
 
+-- one step of a sheet by its gathered terms, from any values and radii: the refusal of its fields first, and then the step's own questions
+unfoldable pub stepOf : Sheet → List Ball → Advance
+stepOf sheet balls =
+    elim (sheetVerdict sheet) [
+      | refuses r ↦ stops r
+      | passes ↦ advance (gathered (termsOf sheet)) (sheet .head .step) (sheet .head .tail) (sheet .head .tol) balls
+    ]
+
 -- how many rows are written: all in an accepted passage, the earlier ones where a step is refused, none before step 1 (0 - 1 is 0)
 unfoldable pub rowsWritten : Sheet → Outcome → ℕ
 rowsWritten sheet Accepted = sheet .head .steps

@@ -1,0 +1,85 @@
+-- Numbers, as they are printed and as they are spelled.
+use mathlib.Core.List.{List, [], _∷_}
+use lib.IntN.{pos, negℤ}
+use Rattle.model.specs.Cases.Forms.{Case, shows, plain, minus, neither}
+
+-- the table
+unfoldable pub numbers : List Case
+numbers =
+    -- as they are printed: the ends of each number of digits, and the largest value and the largest low or high of a row, either way
+    shows (pos 0) "0"
+    ∷ shows (pos 9) "9"
+    ∷ shows (pos 10) "10"
+    ∷ shows (pos 99) "99"
+    ∷ shows (pos 100) "100"
+    ∷ shows (pos 999) "999"
+    ∷ shows (pos 1000) "1000"
+    ∷ shows (pos 9999) "9999"
+    ∷ shows (pos 10000) "10000"
+    ∷ shows (pos 99999) "99999"
+    ∷ shows (pos 100000) "100000"
+    ∷ shows (pos 999999) "999999"
+    ∷ shows (pos 1000000) "1000000"
+    ∷ shows (pos 9999999) "9999999"
+    ∷ shows (pos 10000000) "10000000"
+    ∷ shows (pos 99999999) "99999999"
+    ∷ shows (pos 100000000) "100000000"
+    ∷ shows (pos 999999999) "999999999"
+    ∷ shows (pos 1000000000) "1000000000"
+    ∷ shows (pos 1610612736) "1610612736"
+    ∷ shows (pos 2147483648) "2147483648"
+    ∷ shows (negℤ (pos 1)) "-1"
+    ∷ shows (negℤ (pos 9)) "-9"
+    ∷ shows (negℤ (pos 10)) "-10"
+    ∷ shows (negℤ (pos 1610612736)) "-1610612736"
+    ∷ shows (negℤ (pos 2147483648)) "-2147483648"
+    -- as they are spelled: the ends of each number of digits, before a line feed
+    ∷ plain "0\n" 0 "\n"
+    ∷ plain "9\n" 9 "\n"
+    ∷ plain "10\n" 10 "\n"
+    ∷ plain "99\n" 99 "\n"
+    ∷ plain "100\n" 100 "\n"
+    ∷ plain "999\n" 999 "\n"
+    ∷ plain "1000\n" 1000 "\n"
+    ∷ plain "9999\n" 9999 "\n"
+    ∷ plain "10000\n" 10000 "\n"
+    ∷ plain "99999\n" 99999 "\n"
+    ∷ plain "100000\n" 100000 "\n"
+    ∷ plain "999999\n" 999999 "\n"
+    ∷ plain "1000000\n" 1000000 "\n"
+    ∷ plain "9999999\n" 9999999 "\n"
+    ∷ plain "10000000\n" 10000000 "\n"
+    ∷ plain "99999999\n" 99999999 "\n"
+    ∷ plain "100000000\n" 100000000 "\n"
+    ∷ plain "999999999\n" 999999999 "\n"
+    -- a tenth digit is left
+    ∷ plain "1000000000\n" 100000000 "0\n"
+    ∷ plain "9999999999\n" 999999999 "9\n"
+    -- behind a zero at the front all is left
+    ∷ plain "00\n" 0 "0\n"
+    ∷ plain "01\n" 0 "1\n"
+    -- the end of the text, and the bytes next to the digits, end a number
+    ∷ plain "7" 7 ""
+    ∷ plain "123456789" 123456789 ""
+    ∷ plain "7/\n" 7 "/\n"
+    ∷ plain "7:\n" 7 ":\n"
+    ∷ plain "7-\n" 7 "-\n"
+    -- a minus, never before 0
+    ∷ minus "-1\n" 1 "\n"
+    ∷ minus "-9\n" 9 "\n"
+    ∷ minus "-10\n" 10 "\n"
+    ∷ minus "-999999999\n" 999999999 "\n"
+    ∷ minus "-1000000000\n" 100000000 "0\n"
+    ∷ neither "-0\n"
+    ∷ neither "-01\n"
+    ∷ neither "-\n"
+    ∷ neither "-"
+    ∷ neither "--1\n"
+    -- no digit at the front
+    ∷ neither ""
+    ∷ neither "\n"
+    ∷ neither "/\n"
+    ∷ neither ":\n"
+    ∷ neither "+1\n"
+    ∷ neither " 1\n"
+    ∷ []
