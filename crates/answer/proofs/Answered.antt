@@ -21,19 +21,19 @@ use Rattle.model.specs.declared.Refusal.{Refusal}
 use Rattle.model.specs.declared.Refusal.the-variants.{OutOfRange}
 use Rattle.model.specs.declared.ReadSheet.{ReadSheet}
 use Rattle.model.specs.declared.Sheet.{Sheet}
-use Rattle.laws.proofs.Readings.{accepted-is-acceptable, refused-is-zeros, read-from-front}
-use Rattle.laws.proofs.Rows.{Wide, rows-in-written, places-length, written-length, rows-fit}
-use Rattle.laws.proofs.Passages.{rows-of-passage, passage-refused, passage-runs}
+use Rattle.laws.proofs.Text.Readings.{accepted-is-acceptable, refused-is-zeros, read-from-front}
+use Rattle.laws.proofs.Passages.RowPlaces.{Wide, rows-in-written, places-length, written-length, rows-fit}
+use Rattle.laws.proofs.Passages.RowsOfPassage.{rows-of-passage, passage-refused, passage-runs}
 use Rattle.enclosure.proofs.RowRange.{passage-in-range, passage-earlier, written-in-range, passage-step, passage-few, passage-fits}
 use Rattle.enclosure.proofs.Spanned.{passage-spanned}
 use Rattle.enclosure.proofs.Trusted.{passage-trusted}
-use Rattle.laws.proofs.SheetBounds.{Counts, counts-of-sheet}
+use Rattle.laws.proofs.Bounds.SheetBounds.{Counts, counts-of-sheet}
 use Rattle.answer.specs.declared.Ended.{Ended}
 use Rattle.rows.specs.Room.{HasRows}
 use Rattle.decimal.specs.Pieces.{Printed}
 use Rattle.decimal.proofs.Pieces.{printed-whole}
-use Rattle.text.specs.Lengths.{most-answer}
-use Rattle.text.proofs.Lengths.{length-run}
+use Rattle.text.specs.AnswerLength.{most-answer}
+use Rattle.text.proofs.AnswerLength.{length-run}
 use Rattle.answer.specs.Answered.{runLent, endedOf, Ran, TrustedLent, SpannedLent, TrustedText, FrontOf, AnswersAlike}
 
 -- ---- the sheet that is read

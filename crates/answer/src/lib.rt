@@ -6,7 +6,7 @@ ghost use lib.ListN.{length, take};
 ghost use Rattle.model.specs.Answer.{answer, runText};
 ghost use Rattle.model.specs.Rows.{written};
 ghost use Rattle.decimal.specs.Pieces.{Printed};
-ghost use Rattle.text.specs.Lengths.{most-answer};
+ghost use Rattle.text.specs.AnswerLength.{most-answer};
 ghost use Rattle.answer.specs.Answered.{runLent, endedOf, Ran, summary-length, summaryOf, TrustedLent, SpannedLent, TrustedText, FrontOf, AnswersAlike};
 use model::MOST_BYTES;
 use model::Outcome;

@@ -22,12 +22,12 @@ use Rattle.model.specs.declared.Span.{Span}
 use Rattle.enclosure.proofs.Distrust.{case-A, row-between, rows-of-A, whole}
 use Rattle.enclosure.proofs.EndsBetween.{EndsBetween, AllEndsBetween, passage-ends-between}
 use Rattle.ranges.proofs.Lists.{each-at}
-use Rattle.laws.proofs.Passages.{rows-of-passage}
+use Rattle.laws.proofs.Passages.RowsOfPassage.{rows-of-passage}
 use Rattle.ranges.proofs.Ranges.{sumℤ-le}
 use Rattle.clear_rule.specs.Clearance.{weight, endFor, assured, certain}
 use Rattle.clear_rule.specs.Claim.{ClearsAllTheWay, Wrote}
 use Rattle.clear_rule.specs.declared.Query.{Query}
-use Rattle.clear_rule.proofs.Ranges.{takes-low, takes-high, end-of, assured-is, length-rows}
+use Rattle.clear_rule.proofs.SumsFit.{takes-low, takes-high, end-of, assured-is, length-rows}
 use Rattle.clear_rule.proofs.Uncertain.{Ordered}
 
 -- base × s + the sum of weight × value - the sum of |weight| × radius

@@ -18,12 +18,12 @@ use Rattle.enclosure.specs.Trust.{LiesWithin, LiesBetween, stateAfter, NoLower}
 use Rattle.model.specs.declared.Sheet.{Sheet}
 use Rattle.model.specs.declared.Term.{Term}
 use Rattle.ranges.proofs.Ranges.{sumℤ-zero, sumℤ-single, length-tabulate}
-use Rattle.laws.proofs.Reach.{scale-positive}
+use Rattle.laws.proofs.Bounds.Reach.{scale-positive}
 use Rattle.clear_rule.specs.Clearance.{weight, endFor, certain}
 use Rattle.clear_rule.specs.Claim.{Clears, ClearsAllTheWay, ClearOf}
 use Rattle.clear_rule.specs.declared.Query.{Query}
 use Rattle.clear_rule.specs.declared.Found.{Found}
-use Rattle.clear_rule.proofs.Ranges.{takes-low, takes-high, end-of, assured-to, assured-is}
+use Rattle.clear_rule.proofs.SumsFit.{takes-low, takes-high, end-of, assured-to, assured-is}
 
 -- ---- a single weight
 

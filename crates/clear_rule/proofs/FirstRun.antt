@@ -11,8 +11,7 @@ use Rattle.ranges.specs.Range.{every, least}
 use Rattle.model.specs.Step.{Row, no-row}
 use Rattle.model.specs.declared.Refusal.{Refusal}
 use Rattle.ranges.proofs.Least.{IsLeast, least-found, least-none, least-unique, least-past}
-use Rattle.ranges.proofs.Tests.{every-all}
-use Rattle.laws.proofs.Verdicts.{both-true, every-holds}
+use Rattle.ranges.proofs.EveryLaws.{every-all, both-true, every-holds}
 use Rattle.clear_rule.specs.Clearance.{certain, opens, firstRun}
 use Rattle.clear_rule.specs.Claim.{OpensRun, Answers}
 use Rattle.clear_rule.specs.declared.Query.{Query}

@@ -14,11 +14,11 @@ use Rattle.model.specs.Sheet.{most, most-quantities, most-steps, passes, ask, _
 use Rattle.model.specs.Rows.{values-part, radii-part, lows-part, highs-part, width, partPlace}
 use Rattle.model.specs.declared.Limits.{Limits}
 use Rattle.model.specs.declared.Refusal.the-variants.{TooFewPlaces, QueryOutOfRange, RowOutOfRange}
-use Rattle.ranges.proofs.Tests.{every-all}
-use Rattle.laws.proofs.Verdicts.{both-pass, answered-yes, both-true, every-holds, natural-within, natural-passes, signed-within, signed-passes, in-range}
+use Rattle.ranges.proofs.EveryLaws.{every-all, both-true, every-holds}
+use Rattle.laws.proofs.Text.Verdicts.{both-pass, answered-yes, natural-within, natural-passes, signed-within, signed-passes, in-range}
 use Rattle.clear_rule.specs.Clearance.{weight, count-limits, most-weight, most-place, weight-limits, depth-limits, run-limits, row-value-limits, row-radius-limits, queryWithin, partWithin, rowWithin, clearVerdict}
 use Rattle.clear_rule.specs.declared.Query.{Query}
-use Rattle.clear_rule.proofs.Ranges.{QueryRanges, query-ranges, part-within, part-passes}
+use Rattle.clear_rule.proofs.SumsFit.{QueryRanges, query-ranges, part-within, part-passes}
 
 -- the number of quantity i in part p of row j
 abbrev pub number-at : ℕ → List ℤ → ℕ → ℕ → ℕ → ℤ

@@ -1,5 +1,5 @@
 pub mod Cases
-pub mod Ranges
+pub mod SumsFit
 pub mod Weighing
 pub mod InRange
 pub mod FirstRun
@@ -8,6 +8,6 @@ pub mod RowsClear
 pub mod Uncertain
 pub mod CertainAtEnd
 pub mod ClearSpans
-pub mod Meant
-pub mod Said
-pub mod OwnRows
+pub mod ClaimInWords
+pub mod WholeClaim
+pub mod PassageRows

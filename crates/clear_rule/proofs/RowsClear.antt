@@ -26,7 +26,7 @@ use Rattle.clear_rule.specs.Claim.{Answers, Clears, ClearsAllTheWay, Cle
 use Rattle.clear_rule.specs.declared.Query.{Query}
 use Rattle.clear_rule.specs.declared.Found.{Found}
 use Rattle.clear_rule.specs.declared.Found.the-variants.{At}
-use Rattle.clear_rule.proofs.Ranges.{length-rows, takes-low, takes-high, end-of, assured-to, assured-is}
+use Rattle.clear_rule.proofs.SumsFit.{length-rows, takes-low, takes-high, end-of, assured-to, assured-is}
 
 -- ---- a certain row
 

@@ -12,7 +12,7 @@ use lib.ListN.{length}
 use Rattle.ranges.specs.Range.{every}
 use Rattle.model.specs.Step.{Row}
 use Rattle.ranges.proofs.Ranges.{before-or-past}
-use Rattle.ranges.proofs.Tests.{every-all, every-fails}
+use Rattle.ranges.proofs.EveryLaws.{every-all, every-fails}
 use Rattle.clear_rule.specs.Clearance.{opens, firstRun}
 use Rattle.clear_rule.specs.declared.Query.{Query}
 use Rattle.clear_rule.specs.declared.Found.the-variants.{At, Nowhere}

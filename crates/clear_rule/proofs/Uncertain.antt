@@ -14,11 +14,11 @@ use Rattle.model.specs.Step.{no-span, Row}
 use Rattle.enclosure.specs.Trust.{LiesBetween}
 use Rattle.model.specs.declared.Span.{Span}
 use Rattle.ranges.proofs.Ranges.{sumℤ-equal, sumℤ-factor, length-tabulate, getD-tabulate}
-use Rattle.laws.proofs.Reach.{scale-positive}
+use Rattle.laws.proofs.Bounds.Reach.{scale-positive}
 use Rattle.clear_rule.specs.Clearance.{weight, endFor, assured, certain}
 use Rattle.clear_rule.specs.Claim.{Clears}
 use Rattle.clear_rule.specs.declared.Query.{Query}
-use Rattle.clear_rule.proofs.Ranges.{takes-low, takes-high, end-of, assured-is}
+use Rattle.clear_rule.proofs.SumsFit.{takes-low, takes-high, end-of, assured-is}
 
 -- no low is above its high
 abbrev pub Ordered : Row → Type 0

@@ -16,7 +16,7 @@ use Rattle.ranges.proofs.Ranges.{sumℤ-suc}
 use Rattle.clear_rule.specs.Asked.{Weighable}
 use Rattle.clear_rule.specs.Clearance.{weight, endFor, assured}
 use Rattle.clear_rule.specs.declared.Query.{Query}
-use Rattle.clear_rule.proofs.Ranges.{QueryRanges, query-ranges, RowRanges, row-ranges, end-of, assured-to, product-fits, base-fits, assured-fits, length-spans-in, assured-is, below-fits, bits-are}
+use Rattle.clear_rule.proofs.SumsFit.{QueryRanges, query-ranges, RowRanges, row-ranges, end-of, assured-to, product-fits, base-fits, assured-fits, length-spans-in, assured-is, below-fits, bits-are}
 
 module _ (n j : ℕ) (buffer : List ℤ) (query : Query) (w : Weighable n j buffer query) where
   asked : QueryRanges n query

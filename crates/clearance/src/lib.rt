@@ -5,7 +5,7 @@ ghost use mathlib.Core.Path.{_≡_};
 ghost use lib.ListN.{length};
 ghost use Rattle.model.specs.Sheet.{result, refusedStep, Gives};
 ghost use Rattle.model.specs.Passage as passage;
-ghost use Rattle.passage.specs.Promise.{TrustedRows, SpannedRows};
+ghost use Rattle.enclosure.specs.Trust.{TrustedRows, SpannedRows};
 ghost use Rattle.clear_rule.specs.Asked.{NamesRow};
 ghost use Rattle.clear_rule.specs.Claim.{Said, SaidBy, SaidOf};
 ghost use Rattle.clear_rule.specs.Clearance as clearance;

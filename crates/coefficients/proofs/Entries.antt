@@ -13,7 +13,7 @@ use Rattle.ranges.proofs.Ranges.{before-or-past}
 use Rattle.model.specs.Sheet.{most-quantities}
 use Rattle.products.specs.Table.{orders, table-places, place, ballAt, Table}
 use Rattle.coefficients.specs.Orders.{Written}
-use Rattle.products.proofs.Places.{place-bound}
+use Rattle.products.proofs.TablePlaces.{place-bound}
 
 -- ---- nothing at any place
 

@@ -14,9 +14,9 @@ use Rattle.laws.specs.Bounds.{InBounds}
 use Rattle.model.specs.declared.Ball.{Ball}
 use Rattle.model.specs.declared.Term.{Term}
 use Rattle.ranges.proofs.Ranges.{before-or-past, getD-tabulate, tabulate-equal}
-use Rattle.laws.proofs.Tables.{Grows, coefficients-grow}
-use Rattle.laws.proofs.Invariant.{factor-bounded}
-use Rattle.laws.proofs.WorkingNumbers.{brought-fits}
+use Rattle.laws.proofs.Steps.Tables.{Grows, coefficients-grow}
+use Rattle.laws.proofs.Bounds.Invariant.{factor-bounded}
+use Rattle.laws.proofs.Bounds.WorkingNumbers.{brought-fits}
 use Rattle.products.specs.Table.{table-places, ballAt}
 use Rattle.coefficients.specs.Orders.{startIn, closed, Closed, Usable, Filled}
 use Rattle.coefficients.proofs.Entries.{getD-replicated}

@@ -1,4 +1,4 @@
 mod Entries
 pub mod Filled
 pub mod Filling
-mod Shares
+mod TermByTerm

@@ -29,19 +29,19 @@ use Rattle.model.specs.declared.Outcome.{Outcome}
 use Rattle.model.specs.declared.Outcome.the-variants.{Accepted, Refused}
 use Rattle.stored.proofs.Conversion.{first-passes, comes-out}
 use Rattle.ranges.proofs.Ranges.{before-or-past}
-use Rattle.laws.proofs.Readings.{accepted-is-acceptable, refused-is-zeros, long-text-is-oversized, read-from-front}
+use Rattle.laws.proofs.Text.Readings.{accepted-is-acceptable, refused-is-zeros, long-text-is-oversized, read-from-front}
 use Rattle.ranges.proofs.Lists as lists
 use Rattle.enclosure.proofs.Spanned.{no-rows-spanned, passage-spanned}
 use Rattle.enclosure.proofs.Trusted.{no-rows-trusted, passage-trusted}
-use Rattle.laws.proofs.Rows.{Wide, rows-in-written, row-written, places-length, written-length, rows-fit}
-use Rattle.laws.proofs.Passages.{rows-of-passage, passage-runs}
+use Rattle.laws.proofs.Passages.RowPlaces.{Wide, rows-in-written, row-written, places-length, written-length, rows-fit}
+use Rattle.laws.proofs.Passages.RowsOfPassage.{rows-of-passage, passage-runs}
 use Rattle.enclosure.proofs.RowRange.{passage-step, passage-fits}
-use Rattle.laws.proofs.Verdicts.{few-in-sheet}
+use Rattle.laws.proofs.Text.Verdicts.{few-in-sheet}
 use Rattle.rows.specs.Room.{HasRow}
 use Rattle.rows.proofs.Places.{has-row}
 use Rattle.decimal.specs.Pieces.{Printed}
 use Rattle.decimal.proofs.Pieces.{printed-whole}
-use Rattle.text.proofs.Lengths.{length-outcome}
+use Rattle.text.proofs.AnswerLength.{length-outcome}
 use Rattle.answer.specs.Answered.{FrontOf}
 use Rattle.conversion.specs.Converted.{convertedLent, splitLent, TrustedSplit, SpannedSplit, ConvertedText, ConvertedWith, ConvertsAlike}
 

@@ -15,7 +15,7 @@ use Rattle.rounding.proofs.Machine.{not-negative}
 use Rattle.model.specs.Answer.{decimal}
 use Rattle.decimal.specs.Pieces.{pair, sign}
 use Rattle.ranges.proofs.Ranges.{before-or-past}
-use Rattle.laws.proofs.Fuel.{decimal-digit, decimal-digits}
+use Rattle.laws.proofs.Text.DecimalText.{decimal-digit, decimal-digits}
 
 -- ---- the sign
 

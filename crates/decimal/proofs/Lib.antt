@@ -1,3 +1,3 @@
 pub mod Pieces
 pub mod Decimal
-pub mod Lengths
+pub mod LineLength

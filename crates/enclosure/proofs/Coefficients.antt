@@ -17,7 +17,7 @@ use Rattle.model.specs.declared.Ball.{Ball}
 use Rattle.enclosure.specs.Trust.{LiesWithin}
 use Rattle.model.specs.declared.Term.{Term}
 use Rattle.ranges.proofs.Ranges.{before-or-past}
-use Rattle.laws.proofs.Tables.{coefficients-grow}
+use Rattle.laws.proofs.Steps.Tables.{coefficients-grow}
 use Rattle.enclosure.proofs.Orders.{orders-grow}
 use Rattle.enclosure.proofs.NextCoefficient.{SummandInside, summand-zero, next-enclosed}
 use Rattle.enclosure.proofs.Tail.{summand, partialSum, sums-within}

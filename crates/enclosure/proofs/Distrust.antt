@@ -1,152 +1,162 @@
--- Demand 3 is not met by any row: case A's own row, which holds the exact sums of A, is not trusted where A's step goes back; and A's value alone,
--- which is the exact sum of its degree, is not trusted, since those of higher degrees differ. Nor is the claim about the water between the rows met
--- by any lows and highs: not by those of a step the other way; not by those that hold the exact sums of the printed degree alone, or a path's start,
--- half and end alone; and not by those of a later row that hold only what the start leads to. Assumes nothing.
-use Prim.Native.Nat.{ℕ, zero, suc, _≤_, _<_}
-use mathlib.Core.Bool.{false≢true}
+-- Rows that are not trusted: for each kind of wrong rule that demand 3 refuses, a row that such a rule would write, a start within the start's radii, and
+-- degrees by which the exact sum lies outside the row's radius. Each by computation.
+use Prim.Native.Nat.{ℕ, suc, _*_, _<_}
+use mathlib.Core.Bool.{Bool, true, false, false≢true}
 use mathlib.Core.List.{List, [], _∷_}
-use mathlib.Core.Path.{_≡_, refl}
+use mathlib.Core.Path.{_≡_, refl, sym, _∙_}
 use native.Mathlib.Omega.{arith}
-use borrow.Author.Tests.{le-leb}
-use lib.IntN.{ℤ, pos, negℤ, _*ℤ_, pow, one}
-use lib.ListN.{getD}
-use Rattle.rounding.specs.Enclosure.{Within}
-use Rattle.rounding.specs.Rounding.{near, nearℕ, up}
-use Rattle.ranges.specs.Range.{sum, sumℤ, largest, every, tabulate, least}
-use Rattle.model.specs.Sheet.{scale, ask, _then_, inOrder, from_to_, ±_, within, most, n-limits, steps-limits, step-limits, stepWithin, tail-limits, tol-limits, start-limits, radius-limits, terms-limits, to-limits, coef-limits, first-limits, second-limits, inRange, stepVerdict, headVerdict, startVerdict, quantityVerdict, quantitiesVerdict, termVerdict, termsVerdict, sheetVerdictTo, no-term, no-quantity, listed, termsOf, startValue, startBall, startsOf, padded, quantitiesHeld, termsHeld}
-use Rattle.model.specs.LikeTerms.{like, coefsLike, filter, summed, nonzero, gathered}
-use Rattle.enclosure.specs.Exact.{binomial, State, order, factorℤ, product, nextOrder, ordersTo, sumDenominator, sumNumerator, exactSum}
-use Rattle.model.specs.Step.{bringsℤ, no-ball, no-span, Row, reach, greatest, factors, brings, coefOf, coefs, size, ratio, majorant, tailAt, degree, coefficient, factor, productRadius, products, times, share, nextCoefficient, coefficientsTo, newBall, stepReach, newSpan, newRow, stepRow, no-row}
+use borrow.Author.Tests.{leb-true, le-leb}
+use lib.Dec.{leb}
+use lib.IntN.{ℤ, pos, negℤ, natAbs, _-ℤ_, _*ℤ_, pow, one}
+use lib.ListN.{length, getD}
+use Rattle.ranges.specs.Range.{every}
+use Rattle.model.specs.Sheet.{scale, termsOf, startsOf, quantitiesHeld, termsHeld}
+use Rattle.model.specs.Step.{no-ball, Row, no-row}
+use Rattle.model.specs.Cases.Sheets.{reading, term, given, A-terms, A-given}
 use Rattle.model.specs.declared.Ball.{Ball}
-use Rattle.model.specs.Rows.{width}
-use Rattle.model.specs.Passage.{question, small, most-ratio, slow, tolerable, tolerated, advance, goOn, follow, placesNeeded, run, passage}
-use Rattle.enclosure.specs.Trust.{LiesWithin, stateAfter, NoLower, Trusted, TrustedOf, startOf, Spanned, SpannedOf}
 use Rattle.model.specs.declared.Sheet.{Sheet}
 use Rattle.model.specs.declared.Term.{Term}
-use Rattle.model.specs.declared.Start.the-variants.{Reading}
+use Rattle.model.proofs.Definitions.{every-definition}
+use Rattle.ranges.proofs.EveryLaws.{every-holds}
+use Rattle.enclosure.specs.Exact.{State, binomial, order, factorℤ, product, nextOrder, ordersTo, sumDenominator, sumNumerator, exactSum}
+use Rattle.enclosure.specs.Trust.{LiesWithin, stateAfter, NoLower, Trusted, TrustedOf}
+
+-- ---- the facts, as tests that can be computed
+
+-- to unfold this is to unfold every definition of the rounded rule and of the exact sum
+unfoldable pub every-exact : Type 0
+unfolding every-definition binomial order factorℤ product nextOrder ordersTo sumDenominator sumNumerator exactSum stateAfter pow one
+every-exact = every-definition
+
+-- whether quantity i of a state lies within its radius of its value
+unfoldable pub inside : List Ball → State → ℕ → Bool
+inside balls state i =
+    leb (natAbs (pos scale *ℤ getD (state .numerators) i (pos 0) -ℤ getD balls i no-ball .value *ℤ pos (state .denominator))) (getD balls i no-ball .radius * state .denominator)
+
+pub lies : (balls : List Ball) (state : State) → 0 < state .denominator → length (state .numerators) ≡ length balls → every (length balls) (inside balls state) ≡ true → LiesWithin balls state
+unfolding inside
+lies balls state d len all =
+    record { rational = d; quantities = len; near = λ i h. record { off = leb-true _ _ (every-holds (length balls) (inside balls state) all i h) } }
+
+-- whether a degree is no lower than row j's
+unfoldable pub high-enough : List ℕ → List Row → ℕ → Bool
+high-enough degrees rows j = leb (getD rows j no-row .degree) (getD degrees j 0)
+
+no-lower : (degrees : List ℕ) (rows : List Row) → length degrees ≡ length rows → every (length rows) (high-enough degrees rows) ≡ true → NoLower degrees rows
+unfolding high-enough
+no-lower degrees rows len all =
+    record { each = len; lower = λ j h. omega (arith, leb-true (getD rows j no-row .degree) (getD degrees j 0) (every-holds (length rows) (high-enough degrees rows) all j h)) }
+
+-- from this state, by these degrees, quantity i of row j lies outside
+distrusted : (sheet : Sheet) (rows : List Row) (state : State) (degrees : List ℕ) (j i : ℕ) → LiesWithin (startsOf sheet) state → NoLower degrees rows → j < length rows → i < length (getD rows j no-row .balls) → inside (getD rows j no-row .balls) (stateAfter (termsOf sheet) (sheet .head .step) degrees state (suc j)) i ≡ false → TrustedOf sheet rows → ⊥
+unfolding TrustedOf Trusted inside
+distrusted sheet rows state degrees j i starts lower row quantity outside trusted =
+    false≢true (sym outside ∙ le-leb _ _ (trusted state starts degrees lower j row .0 .near i quantity .off))
+
+-- ---- rows of one quantity, most of them of case A: x' = x × x from one whole
 
 -- case A as numbers, with this step
-unfoldable pub case-A : ℤ → Sheet
-case-A step =
-    record {
-      head = record { n = 1; steps = 1; step = step; tail = 349526; tol = 349534 };
-      quantities = quantitiesHeld (record { start = Reading (pos 16777216); radius = 0 } ∷ []);
-      terms = termsHeld 1 (record { to = 1; coef = pos 16777216; first = 1; second = 1 } ∷ []);
-    }
+abbrev pub case-A : ℤ → Sheet
+case-A step = A-given step 349534 A-terms
 
--- its row, for the step 4,194,304
-pub row-of-A : List Row
-row-of-A = record { degree = 2; balls = record { value = pos 22020096; radius = 349534 } ∷ []; spans = [] } ∷ []
+-- a row of one quantity
+abbrev row-of : ℕ → ℤ → ℕ → Row
+row-of degree value radius = record { degree = degree; balls = record { value = value; radius = radius } ∷ []; spans = [] }
 
 -- the start as an exact state: one whole
 unfoldable pub whole : State
 whole = record { denominator = 1; numerators = pos 1 ∷ [] }
 
-start-lies : (step : ℤ) → LiesWithin (startsOf (case-A step)) whole
-unfolding case-A whole startsOf startBall startValue tabulate quantitiesHeld padded scale no-quantity no-ball
-start-lies step = record { rational = omega arith; quantities = refl; near = at }
-  where
-    at : (i : ℕ) → i < 1 → Within (pos scale *ℤ getD (pos 1 ∷ []) i (pos 0)) 1 (getD (startsOf (case-A step)) i no-ball .value) (getD (startsOf (case-A step)) i no-ball .radius)
-    at zero h = record { off = omega arith }
-    at (suc i) h = absurd (omega arith)
+-- the row of the step forward, where A goes back
+pub forward-row : TrustedOf (case-A (negℤ (pos 4194304))) (row-of 2 (pos 22020096) 349534 ∷ []) → ⊥
+unfolding every-exact inside high-enough whole
+forward-row = distrusted _ _ whole (2 ∷ []) 0 0 (lies _ _ (omega arith) refl refl) (no-lower _ _ refl refl) (omega arith) (omega arith) refl
 
-no-lower : (K : ℕ) → 2 ≤ K → (ball : Ball) → NoLower (K ∷ []) (record { degree = 2; balls = ball ∷ []; spans = [] } ∷ [])
-no-lower K le ball = record { each = refl; lower = λ j h. let first : j ≡ 0 = omega arith in rw first (omega (arith, le)) }
+-- A's value alone, which is the exact sum of its degree: those of higher degrees differ
+pub value-alone : TrustedOf (case-A (pos 4194304)) (row-of 2 (pos 22020096) 0 ∷ []) → ⊥
+unfolding every-exact inside high-enough whole
+value-alone = distrusted _ _ whole (3 ∷ []) 0 0 (lies _ _ (omega arith) refl refl) (no-lower _ _ refl refl) (omega arith) (omega arith) refl
 
-pub forward-row-distrusted : TrustedOf (case-A (negℤ (pos 4194304))) row-of-A → ⊥
-unfolding TrustedOf Trusted case-A row-of-A whole stateAfter exactSum sumDenominator sumNumerator ordersTo order nextOrder product factorℤ bringsℤ binomial sumℤ tabulate listed termsOf termsHeld padded no-term no-row no-ball scale pow one
-forward-row-distrusted h =
-    false≢true (le-leb _ _ (h whole (start-lies _) (2 ∷ []) (no-lower 2 (omega arith) _) 0 (omega arith) .0 .near 0 (omega arith) .off))
+-- its radius without the tail
+pub without-tail : TrustedOf (case-A (pos 4194304)) (row-of 2 (pos 22020096) 8 ∷ []) → ⊥
+unfolding every-exact inside high-enough whole
+without-tail = distrusted _ _ whole (3 ∷ []) 0 0 (lies _ _ (omega arith) refl refl) (no-lower _ _ refl refl) (omega arith) (omega arith) refl
 
--- the same value with radius 0
-pub value-of-A : List Row
-value-of-A = record { degree = 2; balls = record { value = pos 22020096; radius = 0 } ∷ []; spans = [] } ∷ []
+-- with p_3 alone for the tail, 262,144 units, the orders after it forgotten
+pub tail-of-one-order : TrustedOf (case-A (pos 4194304)) (row-of 2 (pos 22020096) 262152 ∷ []) → ⊥
+unfolding every-exact inside high-enough whole
+tail-of-one-order = distrusted _ _ whole (4 ∷ []) 0 0 (lies _ _ (omega arith) refl refl) (no-lower _ _ refl refl) (omega arith) (omega arith) refl
 
-pub value-alone-distrusted : TrustedOf (case-A (pos 4194304)) value-of-A → ⊥
-unfolding TrustedOf Trusted case-A value-of-A whole stateAfter exactSum sumDenominator sumNumerator ordersTo order nextOrder product factorℤ bringsℤ binomial sumℤ tabulate listed termsOf termsHeld padded no-term no-row no-ball scale pow one
-value-alone-distrusted h =
-    false≢true (le-leb _ _ (h whole (start-lies _) (3 ∷ []) (no-lower 3 (omega arith) _) 0 (omega arith) .0 .near 0 (omega arith) .off))
+-- a tail rounded down: over a step of one unit it is 1 and a hair, and the rule's is 2
+pub tail-rounded-down : TrustedOf (case-A (pos 1)) (row-of 0 (pos 16777216) 1 ∷ []) → ⊥
+unfolding every-exact inside high-enough whole
+tail-rounded-down = distrusted _ _ whole (2 ∷ []) 0 0 (lies _ _ (omega arith) refl refl) (no-lower _ _ refl refl) (omega arith) (omega arith) refl
 
--- ---- between the rows
+-- a ratio to the nearest: 4,095 for 4,095.25, whose tail is 4,096; the rule's is 4,096, and its tail 4,098
+pub ratio-to-nearest : TrustedOf (A-given (pos 4095) 349534 (term 1 (pos 16778240) 1 1 ∷ [])) (row-of 0 (pos 16777216) 4096 ∷ []) → ⊥
+unfolding every-exact inside high-enough whole
+ratio-to-nearest = distrusted _ _ whole (2 ∷ []) 0 0 (lies _ _ (omega arith) refl refl) (no-lower _ _ refl refl) (omega arith) (omega arith) refl
 
--- case A's row with this low and this high
-unfoldable pub row-between : ℤ → ℤ → List Row
-row-between low high =
-    record { degree = 2; balls = record { value = pos 22020096; radius = 349534 } ∷ []; spans = record { low = low; high = high } ∷ [] } ∷ []
+-- a ratio by H and not |H|, which is 0 where the step goes back: no tail
+pub ratio-of-a-forecast-alone : TrustedOf (case-A (negℤ (pos 4194304))) (row-of 0 (pos 16777216) 0 ∷ []) → ⊥
+unfolding every-exact inside high-enough whole
+ratio-of-a-forecast-alone = distrusted _ _ whole (1 ∷ []) 0 0 (lies _ _ (omega arith) refl refl) (no-lower _ _ refl refl) (omega arith) (omega arith) refl
 
--- with these it is the one that A's passage writes
-pub rows-of-A : passage (case-A (pos 4194304)) 5 .rows ≡ row-between (pos 11184802) (pos 22369630)
-unfolding case-A row-between near nearℕ up sum sumℤ largest every tabulate least scale ask _then_ inOrder from_to_ ±_ within most n-limits steps-limits step-limits stepWithin tail-limits tol-limits start-limits radius-limits terms-limits to-limits coef-limits first-limits second-limits inRange stepVerdict headVerdict startVerdict quantityVerdict quantitiesVerdict termVerdict termsVerdict sheetVerdictTo no-quantity no-term padded quantitiesHeld termsHeld listed termsOf startValue startBall startsOf bringsℤ like coefsLike filter summed nonzero gathered no-ball reach greatest factors brings coefOf coefs size ratio majorant tailAt degree coefficient factor productRadius products times share nextCoefficient coefficientsTo newBall stepReach newSpan newRow stepRow question small most-ratio slow tolerable tolerated advance goOn follow width placesNeeded run passage
-rows-of-A = refl
+-- ---- rows from a start with a radius
 
--- from the start up, where A goes down
-pub forward-span-distrusted : SpannedOf (case-A (negℤ (pos 4194304))) (row-between (pos 16777216) (pos 22369630)) → ⊥
-unfolding SpannedOf Spanned startOf case-A row-between whole exactSum sumDenominator sumNumerator ordersTo order nextOrder product factorℤ bringsℤ binomial sumℤ tabulate listed termsOf termsHeld padded no-term no-row no-span scale pow one
-forward-span-distrusted h = h 0 (omega arith) whole (start-lies _) 1 1 (omega arith) (omega arith) 2 (omega arith) .above 0 (omega arith) .le
-
--- from the start up to the exact sum of the printed degree
-pub degree-alone-distrusted : SpannedOf (case-A (pos 4194304)) (row-between (pos 16777216) (pos 22020096)) → ⊥
-unfolding SpannedOf Spanned startOf case-A row-between whole exactSum sumDenominator sumNumerator ordersTo order nextOrder product factorℤ bringsℤ binomial sumℤ tabulate listed termsOf termsHeld padded no-term no-row no-span scale pow one
-degree-alone-distrusted h = h 0 (omega arith) whole (start-lies _) 1 1 (omega arith) (omega arith) 3 (omega arith) .below 0 (omega arith) .le
-
--- x' = y, y' = -1
-pub turning : List Term
-turning = record { to = 1; coef = pos 16777216; first = 2; second = 0 } ∷ record { to = 2; coef = negℤ (pos 16777216); first = 0; second = 0 } ∷ []
-
--- x from 0 and y from 3/4 of a whole: over a step of one whole x is 3/4 t - t²/2, highest at t = 3/4
-pub turning-start : List Ball
-turning-start = record { value = pos 0; radius = 0 } ∷ record { value = pos 12582912; radius = 0 } ∷ []
-
-turning-state : State
-turning-state = record { denominator = 4; numerators = pos 0 ∷ pos 3 ∷ [] }
-
-turning-lies : LiesWithin turning-start turning-state
-unfolding turning-start turning-state scale no-ball
-turning-lies = record { rational = omega arith; quantities = refl; near = at }
-  where
-    at : (i : ℕ) → i < 2 → Within (pos scale *ℤ getD (turning-state .numerators) i (pos 0)) 4 (getD turning-start i no-ball .value) (getD turning-start i no-ball .radius)
-    at zero h = record { off = omega arith }
-    at (suc zero) h = record { off = omega arith }
-    at (suc (suc i)) h = absurd (omega arith)
-
--- x between its start and its end, which it has at the step's half too
-pub turning-row : List Row
-turning-row =
+-- one quantity from 0 within a radius, with a step and a term
+abbrev about-zero : ℤ → ℕ → Term → Sheet
+about-zero step radius t =
     record {
-      degree = 2;
-      balls = record { value = pos 4194304; radius = 0 } ∷ record { value = negℤ (pos 4194304); radius = 0 } ∷ [];
-      spans = record { low = pos 0; high = pos 4194304 } ∷ record { low = negℤ (pos 4194304); high = pos 12582912 } ∷ [];
-    } ∷ []
-
-pub ends-alone-distrusted : Spanned turning (pos 16777216) turning-start turning-row → ⊥
-unfolding Spanned startOf turning turning-start turning-state turning-row exactSum sumDenominator sumNumerator ordersTo order nextOrder product factorℤ bringsℤ binomial sumℤ tabulate no-term no-row no-span scale pow one
-ends-alone-distrusted h = h 0 (omega arith) turning-state turning-lies 3 4 (omega arith) (omega arith) 2 (omega arith) .below 0 (omega arith) .le
-
--- two quantities that stay: from a start of 0 without a radius each row holds all, but the second row's step starts from the radii of the first
-pub still-start : List Ball
-still-start = record { value = pos 0; radius = 0 } ∷ record { value = pos 0; radius = 0 } ∷ []
-
-pub still-row : Row
-still-row =
-    record {
-      degree = 0;
-      balls = record { value = pos 0; radius = 0 } ∷ record { value = pos 0; radius = 1 } ∷ [];
-      spans = record { low = pos 0; high = pos 0 } ∷ record { low = pos 0; high = pos 0 } ∷ [];
+      head = record { n = 1; steps = 1; step = step; tail = 16777216; tol = 536870912 };
+      quantities = quantitiesHeld (reading 0 radius ∷ []);
+      terms = termsHeld 1 (t ∷ []);
     }
 
--- one unit of the second quantity
-unit : State
-unit = record { denominator = 16777216; numerators = pos 0 ∷ pos 1 ∷ [] }
+-- G from the values alone: x' = x × x from 0 within two wholes, over an eighth. With G = s the tail is s ÷ 7, and two wholes move by a half of one
+two-wholes : State
+two-wholes = record { denominator = 1; numerators = pos 2 ∷ [] }
 
-unit-lies : LiesWithin (still-row .balls) unit
-unfolding still-row unit scale no-ball
-unit-lies = record { rational = omega arith; quantities = refl; near = at }
-  where
-    at : (i : ℕ) → i < 2 → Within (pos scale *ℤ getD (unit .numerators) i (pos 0)) 16777216 (getD (still-row .balls) i no-ball .value) (getD (still-row .balls) i no-ball .radius)
-    at zero h = record { off = omega arith }
-    at (suc zero) h = record { off = omega arith }
-    at (suc (suc i)) h = absurd (omega arith)
+pub greatest-from-values-alone : TrustedOf (about-zero (pos 2097152) 33554432 (term 1 (pos 16777216) 1 1)) (row-of 0 (pos 0) 35951178 ∷ []) → ⊥
+unfolding every-exact inside high-enough two-wholes
+greatest-from-values-alone = distrusted _ _ two-wholes (1 ∷ []) 0 0 (lies _ _ (omega arith) refl refl) (no-lower _ _ refl refl) (omega arith) (omega arith) refl
 
-pub start-alone-distrusted : Spanned [] (pos 16777216) still-start (still-row ∷ still-row ∷ []) → ⊥
-unfolding Spanned startOf still-start still-row unit exactSum sumDenominator sumNumerator ordersTo order tabulate no-row no-span scale pow one
-start-alone-distrusted h = h 1 (omega arith) unit unit-lies 0 1 (omega arith) (omega arith) 0 (omega arith) .below 1 (omega arith) .le
+-- radii of coefficients that do not follow a step back: x' = -x from 0 within one whole, over a quarter back, grows by a quarter, and e_1 is 3
+pub radii-of-a-forecast-alone : TrustedOf (about-zero (negℤ (pos 4194304)) 16777216 (term 1 (negℤ (pos 16777216)) 1 0)) (row-of 1 (pos 0) 18175321 ∷ []) → ⊥
+unfolding every-exact inside high-enough whole
+radii-of-a-forecast-alone = distrusted _ _ whole (1 ∷ []) 0 0 (lies _ _ (omega arith) refl refl) (no-lower _ _ refl refl) (omega arith) (omega arith) refl
+
+-- the next step started with radius 0: a quantity that stays, 5 units from 0
+five-units : State
+five-units = record { denominator = 16777216; numerators = pos 5 ∷ [] }
+
+pub next-step-from-radius-0 : TrustedOf (given 2 (pos 1) 7 (reading 0 5 ∷ []) 0) (row-of 0 (pos 0) 5 ∷ row-of 0 (pos 0) 0 ∷ []) → ⊥
+unfolding every-exact inside high-enough five-units
+next-step-from-radius-0 = distrusted _ _ five-units (0 ∷ 0 ∷ []) 1 0 (lies _ _ (omega arith) refl refl) (no-lower _ _ refl refl) (omega arith) (omega arith) refl
+
+-- ---- a radius without its 1
+
+-- 0.49 wholes in the rate of the first quantity
+abbrev part : ℕ → ℕ → Term
+part first second = term 1 (pos 8220835) first second
+
+-- three quantities of one whole, over a step of one unit, and ten unlike terms
+abbrev ten-terms : Sheet
+ten-terms =
+    record {
+      head = record { n = 3; steps = 1; step = pos 1; tail = 2; tol = 7 };
+      quantities = quantitiesHeld (reading 16777216 0 ∷ reading 16777216 0 ∷ reading 16777216 0 ∷ []);
+      terms = termsHeld 10 (part 0 0 ∷ part 1 0 ∷ part 2 0 ∷ part 3 0 ∷ part 1 1 ∷ part 1 2 ∷ part 1 3 ∷ part 2 2 ∷ part 2 3 ∷ part 3 3 ∷ []);
+    }
+
+wholes : State
+wholes = record { denominator = 1; numerators = pos 1 ∷ pos 1 ∷ pos 1 ∷ [] }
+
+-- one whole within 3 units
+abbrev about-one : Ball
+about-one = record { value = pos 16777216; radius = 3 }
+
+-- f and g without their 1: each of the ten brings 0.49 units that are rounded to 0, and the radius is 1 and the tail
+pub without-its-one : TrustedOf ten-terms (record { degree = 1; balls = about-one ∷ about-one ∷ about-one ∷ []; spans = [] } ∷ []) → ⊥
+unfolding every-exact inside high-enough wholes
+without-its-one = distrusted _ _ wholes (1 ∷ []) 0 0 (lies _ _ (omega arith) refl refl) (no-lower _ _ refl refl) (omega arith) (omega arith) refl

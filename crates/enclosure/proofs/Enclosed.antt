@@ -21,11 +21,11 @@ use Rattle.model.specs.declared.Ball.{Ball}
 use Rattle.model.specs.Passage.{slow, most-ratio}
 use Rattle.enclosure.specs.Trust.{LiesWithin}
 use Rattle.model.specs.declared.Term.{Term}
-use Rattle.laws.proofs.Invariant.{scale-le-greatest, reach-le-greatest}
+use Rattle.laws.proofs.Bounds.Invariant.{scale-le-greatest, reach-le-greatest}
 use Rattle.enclosure.proofs.Coefficients.{sums-enclosed}
 use Rattle.enclosure.proofs.Majorant.{WellFormed, summand-under}
 use Rattle.ranges.proofs.Ranges.{length-tabulate, getD-tabulate, largest-le}
-use Rattle.laws.proofs.Reach.{scale-positive}
+use Rattle.laws.proofs.Bounds.Reach.{scale-positive}
 use Rattle.enclosure.proofs.Tail.{summand, partialSum, apart, tail-covers-rest}
 
 -- u ÷ m within e of c, and v ÷ n within t of u ÷ m

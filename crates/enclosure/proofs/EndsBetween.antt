@@ -18,9 +18,9 @@ use Rattle.model.specs.Passage.{moves, advance, refused, passage}
 use Rattle.model.specs.declared.Sheet.{Sheet}
 use Rattle.model.specs.declared.Term.{Term}
 use Rattle.ranges.proofs.Lists.{Each, none}
-use Rattle.laws.proofs.Passages.{run-each, passage-either}
+use Rattle.laws.proofs.Passages.RowsOfPassage.{run-each, passage-either}
 use Rattle.ranges.proofs.Ranges.{sum-first, sum-plus, sumℤ-first, abs-sumℤ-le, getD-tabulate}
-use Rattle.laws.proofs.Taken.{step-taken, quantities-stay}
+use Rattle.laws.proofs.Steps.StepTaken.{step-taken, quantities-stay}
 
 pub record EndsBetween (ball : Ball) (span : Span) : Type 0 where
   pub above : (span .low) ≤ℤ (ball .value -ℤ pos (ball .radius))

@@ -15,7 +15,7 @@ use Rattle.enclosure.specs.Exact.{State}
 use Rattle.model.specs.Step.{no-ball}
 use Rattle.model.specs.declared.Ball.{Ball}
 use Rattle.enclosure.specs.Trust.{LiesWithin}
-use Rattle.laws.proofs.Reach.{scale-positive}
+use Rattle.laws.proofs.Bounds.Reach.{scale-positive}
 use Rattle.enclosure.proofs.Denominators.{number, SameNumbers}
 
 -- each value, in wholes: its units ÷ s

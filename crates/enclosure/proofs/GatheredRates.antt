@@ -19,9 +19,9 @@ use Rattle.model.specs.declared.Term.{Term}
 use Rattle.ranges.proofs.Ranges.{sumℤ-first, tabulate-equal}
 use Rattle.enclosure.proofs.Convolution.{convolution, product-factored, convolution-either-way}
 use Rattle.enclosure.proofs.NextCoefficient.{brings-factor}
-use Rattle.laws.proofs.Filters.{filter-ind}
-use Rattle.laws.proofs.Like.{SameFactors, in-order, changed-over, like-says}
-use Rattle.laws.proofs.Gathered.{with-coef, unlike, zero-coef, coefs-like, coefs-unlike, coefs-summed}
+use Rattle.laws.proofs.Gathering.Filters.{filter-ind}
+use Rattle.laws.proofs.Gathering.Like.{SameFactors, in-order, changed-over, like-says}
+use Rattle.laws.proofs.Gathering.Gathered.{with-coef, unlike, zero-coef, coefs-like, coefs-unlike, coefs-summed}
 
 joined : (a b x y : ℤ) → (a +ℤ b) *ℤ x +ℤ y ≡ a *ℤ x +ℤ (b *ℤ x +ℤ y)
 joined a b x y = simp ringℤ

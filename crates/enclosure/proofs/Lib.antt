@@ -12,8 +12,10 @@ pub mod Enclosed
 pub mod SpannedStep
 pub mod Spanned
 pub mod ExactStates
-pub mod Halving
+pub mod RowBounds
 pub mod Trusted
 pub mod Distrust
+pub mod DistrustBetween
 pub mod EndsBetween
 pub mod RowRange
+pub mod PromisedRows

@@ -20,9 +20,9 @@ use Rattle.model.specs.Step.{bringsℤ, brings, size}
 use Rattle.model.specs.declared.Term.{Term}
 use Rattle.enclosure.proofs.Binomial.{binomial-denominators}
 use Rattle.ranges.proofs.Ranges.{sum-le, sum-constant, sum-factor, abs-sumℤ-le}
-use Rattle.laws.proofs.Reach.{scale-positive}
+use Rattle.laws.proofs.Bounds.Reach.{scale-positive}
 use Rattle.enclosure.proofs.Orders.{orders-grow, factorℤ-stays}
-use Rattle.laws.proofs.Weights.{weight, weighs, weightOf, weight-by-size}
+use Rattle.laws.proofs.Bounds.Weights.{weight, weighs, weightOf, weight-by-size}
 
 -- where a term's `first` is 0, so is its `second`
 pub record WellFormed (terms : List Term) : Type 0 where

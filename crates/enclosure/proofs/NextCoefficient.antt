@@ -20,7 +20,7 @@ use Rattle.model.specs.Step.{bringsℤ, no-ball, Coefficients, coefficient, fac
 use Rattle.model.specs.declared.Ball.{Ball}
 use Rattle.model.specs.declared.Term.{Term}
 use Rattle.ranges.proofs.Ranges.{sumℤ-equal, sumℤ-last, sumℤ-factor, within-zero, within-same, within-sums}
-use Rattle.laws.proofs.Reach.{scale-positive}
+use Rattle.laws.proofs.Bounds.Reach.{scale-positive}
 use Rattle.enclosure.proofs.Binomial.{binomial-all, binomial-denominators}
 use Rattle.enclosure.proofs.Convolution.{product-factored}
 use Rattle.enclosure.proofs.Convolution as Convolution

@@ -13,8 +13,8 @@ use Rattle.model.specs.declared.Ball.{Ball}
 use Rattle.model.specs.Passage.{tolerable}
 use Rattle.enclosure.specs.Trust.{Tolerated}
 use Rattle.model.specs.declared.Term.{Term}
-use Rattle.laws.proofs.Tables.{Grows, grows}
-use Rattle.laws.proofs.Verdicts.{every-holds}
+use Rattle.laws.proofs.Steps.Tables.{Grows, grows}
+use Rattle.ranges.proofs.EveryLaws.{every-holds}
 
 pub orders-grow : (terms : List Term) (state : State) → Grows (pos 0) (state .numerators) (λ k. nextOrder terms (state .denominator) (ordersTo terms state k) k) (λ d. order (ordersTo terms state d))
 unfolding order ordersTo

@@ -16,14 +16,14 @@ use Rattle.model.specs.Rows.{width, written}
 use Rattle.laws.specs.Bounds.{InBounds}
 use Rattle.enclosure.specs.RowRange.{Printable, RowsPrintable}
 use Rattle.model.specs.declared.Sheet.{Sheet}
-use Rattle.enclosure.proofs.Halving.{row-sharp, Spread, spans-sharp}
-use Rattle.laws.proofs.Invariant.{greatest-le-most}
-use Rattle.laws.proofs.Passages.{AllButLast, empty, run-each, run-earlier, rows-of-run, rows-of-passage, passage-either}
+use Rattle.enclosure.proofs.RowBounds.{row-sharp, Spread, spans-sharp}
+use Rattle.laws.proofs.Bounds.Invariant.{greatest-le-most}
+use Rattle.laws.proofs.Passages.RowsOfPassage.{AllButLast, empty, run-each, run-earlier, rows-of-run, rows-of-passage, passage-either}
 use Rattle.ranges.proofs.Lists.{Each, none, each-at}
-use Rattle.laws.proofs.Rows.{Quantities, row-written}
-use Rattle.laws.proofs.SheetBounds.{bounds-of-step, counts-of-sheet}
-use Rattle.laws.proofs.GatheredBounds.{bounds-of-gathered}
-use Rattle.laws.proofs.Taken.{Taken, step-taken, quantities-stay, row-of-quantities, degree-at-most}
+use Rattle.laws.proofs.Passages.RowPlaces.{Quantities, row-written}
+use Rattle.laws.proofs.Bounds.SheetBounds.{bounds-of-step, counts-of-sheet}
+use Rattle.laws.proofs.Gathering.GatheredBounds.{bounds-of-gathered}
+use Rattle.laws.proofs.Steps.StepTaken.{Taken, step-taken, quantities-stay, row-of-quantities, degree-at-most}
 use Rattle.enclosure.proofs.Orders.{all-tolerated}
 
 row-in-range : (sheet : Sheet) → sheetVerdict sheet ≡ passes → (balls : List Ball) (row : Row) → length balls ≡ sheet .head .n → advance (gathered (termsOf sheet)) (sheet .head .step) (sheet .head .tail) (sheet .head .tol) balls ≡ moves row → Printable row

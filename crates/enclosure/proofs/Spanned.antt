@@ -17,11 +17,11 @@ use Rattle.enclosure.specs.Trust.{LiesWithin, LiesBetween, startOf, Span
 use Rattle.model.specs.declared.Sheet.{Sheet}
 use Rattle.model.specs.declared.Term.{Term}
 use Rattle.enclosure.proofs.SpannedStep.{step-between}
-use Rattle.laws.proofs.GatheredBounds.{bounds-of-gathered}
+use Rattle.laws.proofs.Gathering.GatheredBounds.{bounds-of-gathered}
 use Rattle.enclosure.proofs.GatheredRates.{rates-gathered, sum-same}
 use Rattle.enclosure.proofs.Majorant.{WellFormed}
-use Rattle.laws.proofs.Passages.{passage-either}
-use Rattle.laws.proofs.Taken.{step-taken}
+use Rattle.laws.proofs.Passages.RowsOfPassage.{passage-either}
+use Rattle.laws.proofs.Steps.StepTaken.{step-taken}
 
 -- a row whose spans hold every exact sum within a step of H from these balls
 abbrev Holds : List Term → ℤ → List Ball → Row → Type 0

@@ -25,7 +25,7 @@ use Rattle.enclosure.proofs.Coefficients.{summand-enclosed}
 use Rattle.enclosure.proofs.Enclosed.{denominator-positive, tail-encloses}
 use Rattle.enclosure.proofs.Majorant.{WellFormed}
 use Rattle.ranges.proofs.Ranges.{sum-first, sumℤ-first, sumℤ-zero, length-tabulate, getD-tabulate}
-use Rattle.laws.proofs.Reach.{scale-positive}
+use Rattle.laws.proofs.Bounds.Reach.{scale-positive}
 use Rattle.enclosure.proofs.Tail.{summand, partialSum, sums-within}
 
 -- ---- a fraction of a step

@@ -18,7 +18,7 @@ use Rattle.enclosure.specs.Exact.{State, order, ordersTo, sumDenominator
 use Rattle.model.specs.Step.{majorant, tailAt}
 use Rattle.model.specs.declared.Term.{Term}
 use Rattle.ranges.proofs.Ranges.{within-same}
-use Rattle.laws.proofs.Reach.{scale-positive}
+use Rattle.laws.proofs.Bounds.Reach.{scale-positive}
 
 pow-parts : (b d n : ℕ) → b ^ suc (d + n) ≡ b ^ suc d * b ^ n
 pow-parts b d n = rw (← suc-add d n) (pow-add b (suc d) n)

@@ -21,11 +21,11 @@ use Rattle.model.specs.declared.Sheet.{Sheet}
 use Rattle.model.specs.declared.Term.{Term}
 use Rattle.enclosure.proofs.Enclosed.{step-encloses}
 use Rattle.enclosure.proofs.Majorant.{WellFormed}
-use Rattle.laws.proofs.Passages.{passage-either}
+use Rattle.laws.proofs.Passages.RowsOfPassage.{passage-either}
 use Rattle.ranges.proofs.Ranges.{below, length-tabulate, getD-tabulate}
 use Rattle.enclosure.proofs.GatheredRates.{rates-gathered, trusted-same}
-use Rattle.laws.proofs.GatheredBounds.{bounds-of-gathered}
-use Rattle.laws.proofs.Taken.{Taken, step-taken}
+use Rattle.laws.proofs.Gathering.GatheredBounds.{bounds-of-gathered}
+use Rattle.laws.proofs.Steps.StepTaken.{Taken, step-taken}
 use Rattle.enclosure.proofs.Orders.{all-tolerated}
 
 -- ---- rows, one after the other

@@ -10,9 +10,12 @@ use Rattle.rounding.specs.Enclosure.{Within}
 use Rattle.model.specs.Sheet.{scale, termsOf, startsOf}
 use Rattle.enclosure.specs.Exact.{State, exactSum}
 use Rattle.model.specs.Step.{no-ball, no-span, Row, no-row}
+use Rattle.model.specs.Rows.{rowsIn}
+use Rattle.model.specs.Passage.{rowsWritten}
 use Rattle.model.specs.declared.Ball.{Ball}
 use Rattle.model.specs.declared.Span.{Span}
 use Rattle.model.specs.declared.Sheet.{Sheet}
+use Rattle.model.specs.declared.Outcome.{Outcome}
 use Rattle.model.specs.declared.Term.{Term}
 
 -- an exact state lies within radii of values: for every quantity, s times its number differs from the value by at most the radius
@@ -76,3 +79,15 @@ Spanned terms H starts rows =
 -- Document 02, of rows of a sheet: from its start, by its step and its terms.
 unfoldable pub SpannedOf : Sheet → List Row → Type 0
 SpannedOf sheet rows = Spanned (termsOf sheet) (sheet .head .step) (startsOf sheet) rows
+
+-- ---- the rows in a lent buffer
+
+-- Demand 3, of the rows as they stand in the buffer.
+unfoldable pub TrustedRows : Sheet → List ℤ → Outcome → Type 0
+TrustedRows sheet after outcome =
+    TrustedOf sheet (rowsIn (sheet .head .n) (rowsWritten sheet outcome) after)
+
+-- The water between the rows, of the rows as they stand in the buffer.
+unfoldable pub SpannedRows : Sheet → List ℤ → Outcome → Type 0
+SpannedRows sheet after outcome =
+    SpannedOf sheet (rowsIn (sheet .head .n) (rowsWritten sheet outcome) after)

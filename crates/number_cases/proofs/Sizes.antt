@@ -14,7 +14,7 @@ use Rattle.model.specs.Sheet.{most-digits}
 use Rattle.model.specs.Answer.{decimal}
 use Rattle.model.specs.Reading.{Spelled, spelled, wrong, isDigit, digits, natural, negated, signed, after, ended}
 use Rattle.decimal.specs.Pieces.{Put, Room, lineOf}
-use Rattle.laws.proofs.Fuel.{length-signed}
+use Rattle.laws.proofs.Text.DecimalText.{length-signed}
 use Rattle.decimal.proofs.Pieces.{put-keeps-length}
 use Rattle.lines.specs.Places.{spelling, lineAfter}
 use Rattle.lines.proofs.Spellings.{digit-range}

@@ -1,3 +1,1 @@
-mod Counts
-mod Kept
-mod Steps
+mod StepAnswered

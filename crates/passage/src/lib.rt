@@ -1,12 +1,12 @@
-// A passage given as numbers, run into a lent buffer, and one step of it: document 01, questions 3 to 6.
+// A passage given as numbers, run into a lent buffer: document 01, questions 3 to 6.
 ghost use mathlib.Core.Path.{_≡_};
 ghost use Prim.Native.Nat.{_≤_};
 ghost use lib.ListN.{length};
 ghost use Rattle.model.specs.Sheet.{result, refusedStep, Gives, most-quantities, listed, startValue, startsOf};
 ghost use Rattle.model.specs.Rows.{ballsOf};
 ghost use Rattle.model.specs.Passage as passage;
-ghost use Rattle.taylor.specs.Step.{answered, Numbered};
-ghost use Rattle.passage.specs.Promise.{CanRun, TrustedRows, SpannedRows, stepOf};
+ghost use Rattle.enclosure.specs.Trust.{TrustedRows, SpannedRows};
+ghost use Rattle.passage.specs.CanRun.{CanRun};
 use model::Balls;
 use model::Head;
 use model::MOST_QUANTITIES;
@@ -20,8 +20,6 @@ use ratio::sums_of;
 use rows::put_row;
 use rows::width;
 use taylor::Advance;
-use taylor::Stepped;
-use taylor::stopped;
 use taylor::take_step;
 use terms::gather;
 use verdict::verdict;
@@ -116,22 +114,4 @@ pub fn rows_written(sheet: Sheet, outcome: Outcome) -> usize
         Outcome::Accepted => sheet.head.steps,
         Outcome::Refused(_, step) => { if step == 0 { 0 } else { step - 1 } }
     }
-}
-
-// One step of the sheet from `start`, by its gathered terms. A sheet that is refused by 3 or 4 gives that refusal, and a
-// refused step leaves the values and radii that it started from.
-pub fn step(sheet: Sheet, start: Balls) -> Stepped
-    ensures whole { λ r. ⌜ r ≡ answered start (stepOf sheet (ballsOf (sheet .head .n) start)) ⌝ }
-    ensures numbered { λ r. ⌜ Numbered (r .advance) (stepOf sheet (ballsOf (sheet .head .n) start)) ⌝ }
-{
-    let refused = verdict(sheet);
-    if let Outcome::Refused(refusal, _) = refused {
-        return stopped(refusal, start);
-    }
-    let head = sheet.head;
-    let terms = gather(sheet.terms);
-    let sums = sums_of(head.n, terms);
-    let mut values = [0i64; PLACES];
-    let mut reaches = [0u64; PLACES];
-    take_step(head, terms, &sums, start, &mut values, &mut reaches)
 }

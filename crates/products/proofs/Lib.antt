@@ -1,2 +1,2 @@
 mod OneProduct
-pub mod Places
+pub mod TablePlaces

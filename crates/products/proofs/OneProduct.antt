@@ -13,11 +13,11 @@ use Rattle.ranges.specs.Range as range
 use Rattle.model.specs.Sheet.{scale, most}
 use Rattle.model.specs.Step.{Coefficients, most-degree, reach, factor, productRadius, products}
 use Rattle.model.specs.declared.Ball.{Ball}
-use Rattle.laws.proofs.Reach.{reach-product}
-use Rattle.laws.proofs.Shares.{partialProducts}
-use Rattle.laws.proofs.WorkingNumbers.{products-fit}
+use Rattle.laws.proofs.Bounds.Reach.{reach-product}
+use Rattle.laws.proofs.Bounds.ShareBounds.{partialProducts}
+use Rattle.laws.proofs.Bounds.WorkingNumbers.{products-fit}
 use Rattle.products.specs.Table.{orders, place, tableIn, Small, Reached, IsQuantity}
-use Rattle.products.proofs.Places.{ball-equal, factors-small, reach-in, value-kept, reached-at}
+use Rattle.products.proofs.TablePlaces.{ball-equal, factors-small, reach-in, value-kept, reached-at}
 
 pub no-products : (table : Coefficients) (k first second : ℕ) → _≡_ {A = Ball} (record { value = pos 0; radius = 0 }) (partialProducts table k first second 0)
 unfolding partialProducts range.sum range.sumℤ

@@ -1,6 +1,6 @@
 pub mod Ranges
 pub mod Lists
 pub mod Least
-pub mod Tests
+pub mod EveryLaws
 pub mod Stores
 pub mod Fractions

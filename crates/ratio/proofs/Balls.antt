@@ -8,7 +8,7 @@ use lib.ListN.{getD}
 use Rattle.ranges.specs.Range.{largest}
 use Rattle.model.specs.Sheet.{scale}
 use Rattle.model.specs.Step.{no-ball, reach, greatest}
-use Rattle.laws.proofs.Rows.{length-balls}
+use Rattle.laws.proofs.Passages.RowPlaces.{length-balls}
 use Rattle.ranges.proofs.Ranges.{below, getD-tabulate}
 use Rattle.model.specs.Rows.{ballsIn, ballIn}
 

@@ -10,7 +10,7 @@ use Rattle.model.specs.Step.{greatest, size, ratio}
 use Rattle.laws.specs.Bounds.{total, most-total}
 use Rattle.model.specs.declared.Ball.{Ball}
 use Rattle.model.specs.declared.Term.{Term}
-use Rattle.laws.proofs.RatioNumbers.{coefs-le}
+use Rattle.laws.proofs.Bounds.RatioNumbers.{coefs-le}
 use Rattle.ratio.specs.Ratio.{counts, SumsOf, Bounded, sizeBy, ratioBy}
 use Rattle.ratio.proofs.Balls.{largest-equal}
 

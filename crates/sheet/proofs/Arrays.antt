@@ -14,7 +14,7 @@ use Rattle.model.specs.Reading.{parsed, fault, Parser, return, _>>=_, times}
 use Rattle.model.specs.declared.Refusal.{Refusal}
 use Rattle.model.specs.declared.Outcome.{Outcome}
 use Rattle.model.specs.declared.Outcome.the-variants.{Accepted, Refused}
-use Rattle.lines.proofs.Parsers.{bind-parsed, bind-fault}
+use Rattle.lines.proofs.FieldsRead.{bind-parsed, bind-fault}
 use Rattle.sheet.specs.Parts.{withOutcome}
 
 module _ {A : Type 0} (p : Parser A) (from : List ℕ) where

@@ -7,7 +7,7 @@ use Rattle.model.specs.Reading.{readSheetTo}
 use Rattle.model.specs.declared.Outcome.{Outcome}
 use Rattle.model.specs.declared.Outcome.the-variants.{Accepted, Refused}
 use Rattle.model.specs.declared.ReadSheet.{ReadSheet}
-use Rattle.laws.proofs.Readings.{refused-is-zeros}
+use Rattle.laws.proofs.Text.Readings.{refused-is-zeros}
 
 -- what is read is accepted, or refused with step 0
 before-steps : (high : ℕ) (text : List ℕ) (o : Outcome) → readSheetTo high text .outcome ≡ o → refusedStep o ≡ 0

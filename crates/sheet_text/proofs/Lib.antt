@@ -1,2 +1,2 @@
-mod Lengths
-mod Pieces
+mod SheetLength
+mod TextsInOrder

@@ -10,7 +10,7 @@ ghost use Rattle.ranges.specs.Range.{tabulate};
 ghost use Rattle.model.specs.Sheet.{most-quantities, most-terms, stored-steps, passes, headVerdict, startVerdict, quantityVerdict, quantitiesVerdict, sheetVerdictTo, no-quantity, no-term};
 ghost use Rattle.stored.specs.Conversion as conversion;
 ghost use Rattle.decimal.specs.Pieces.{Put};
-ghost use Rattle.sheet_text.specs.Lengths.{most-head, most-start, most-quantity, most-term, most-sheet, TermShort};
+ghost use Rattle.sheet_text.specs.SheetLength.{most-head, most-start, most-quantity, most-term, most-sheet, TermShort};
 use decimal::ENDS;
 use decimal::put_bytes;
 use decimal::put_front;

@@ -23,11 +23,11 @@ use Rattle.model.specs.declared.Refusal.{Refusal}
 use Rattle.model.specs.declared.Refusal.the-variants.{TooLarge}
 use Rattle.model.specs.declared.Outcome.{Outcome}
 use Rattle.model.specs.declared.Outcome.the-variants.{Accepted, Refused}
-use Rattle.laws.proofs.Verdicts.{pass-then, natural-passes, signed-passes, in-range, HeadInRange, SheetInRange, sheet-in-range, in-range-passes}
-use Rattle.laws.proofs.Passages.{rows-of-run}
+use Rattle.laws.proofs.Text.Verdicts.{pass-then, natural-passes, signed-passes, in-range, HeadInRange, SheetInRange, sheet-in-range, in-range-passes}
+use Rattle.laws.proofs.Passages.RowsOfPassage.{rows-of-run}
 use Rattle.ranges.proofs.Ranges.{before-or-past}
-use Rattle.laws.proofs.SheetBounds.{each-small}
-use Rattle.laws.proofs.Readings.{Acceptable, accepted-is-acceptable}
+use Rattle.laws.proofs.Bounds.SheetBounds.{each-small}
+use Rattle.laws.proofs.Text.Readings.{Acceptable, accepted-is-acceptable}
 use Rattle.stored.proofs.RoundTrip.{read-printed}
 use Rattle.stored.proofs.Parts.{second-quantity, second-starts, first-refusal-is-whole, last-wide, parts-are-whole, large-is-refused}
 

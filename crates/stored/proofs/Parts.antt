@@ -22,8 +22,8 @@ use Rattle.model.specs.declared.Refusal.the-variants.{TooLarge}
 use Rattle.model.specs.declared.Outcome.the-variants.{Accepted, Refused}
 use Rattle.ranges.proofs.Ranges.{tabulate-is}
 use Rattle.ranges.proofs.Lists.{each-at}
-use Rattle.laws.proofs.Passages.{rows-of-run}
-use Rattle.laws.proofs.Follow.{after}
+use Rattle.laws.proofs.Passages.RowsOfPassage.{rows-of-run}
+use Rattle.laws.proofs.Passages.UnderWay.{after}
 
 accepted-not-refused : {r : Refusal} {step : ℕ} → Accepted ≡ Refused r step → ⊥
 accepted-not-refused e = let z : _≡_ {A = ℕ} 0 1 = cc in omega arith

@@ -28,11 +28,11 @@ use Rattle.model.specs.declared.Term.{Term}
 use Rattle.model.specs.declared.Sheet.{Sheet}
 use Rattle.model.specs.declared.Outcome.the-variants.{Accepted}
 use Rattle.ranges.proofs.Ranges.{below, tabulate-is}
-use Rattle.laws.proofs.Fuel.{spells, Digits, text-spells-number, text-is-digits, length-below, length-signed, length-printed}
-use Rattle.laws.proofs.Verdicts.{refusal-not-passes, both-pass, in-range, signed-magnitude, step-in-range, TermInRange, HeadInRange, SheetInRange, sheet-in-range}
-use Rattle.laws.proofs.SheetBounds.{second-at-most}
-use Rattle.laws.proofs.Parsers.{answers, field-asked-alike, signed-asked-alike, step-asked-alike}
-use Rattle.laws.proofs.Readings.{after-itself}
+use Rattle.laws.proofs.Text.DecimalText.{spells, Digits, text-spells-number, text-is-digits, length-below, length-signed, length-printed}
+use Rattle.laws.proofs.Text.Verdicts.{refusal-not-passes, both-pass, in-range, signed-magnitude, step-in-range, TermInRange, HeadInRange, SheetInRange, sheet-in-range}
+use Rattle.laws.proofs.Bounds.SheetBounds.{second-at-most}
+use Rattle.laws.proofs.Text.Parsers.{answers, field-asked-alike, signed-asked-alike, step-asked-alike}
+use Rattle.laws.proofs.Text.Readings.{after-itself}
 
 -- ---- a number
 

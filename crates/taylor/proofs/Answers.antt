@@ -5,7 +5,7 @@ use mathlib.Core.List.{List}
 use mathlib.Core.Path.{_≡_, refl, sym, ap, ap₂, _∙_}
 use native.Mathlib.Nat.{max-le}
 use native.Mathlib.Omega.{arith}
-use Rattle.laws.proofs.Rows.{length-balls}
+use Rattle.laws.proofs.Passages.RowPlaces.{length-balls}
 use borrow.Author.Tests.{le-leb, lt-leb}
 use lib.Dec.{leb}
 use lib.IntN.{ℤ}
@@ -23,15 +23,15 @@ use Rattle.model.specs.declared.Term.{Term}
 use Rattle.laws.specs.Bounds.{TermsInBounds, InBounds}
 use Rattle.model.specs.Rows.{ballIn, ballsIn, ballsOf, laidOut}
 use Rattle.ranges.proofs.Ranges.{below, largest-bounded}
-use Rattle.laws.proofs.Invariant.{scale-le-greatest}
-use Rattle.laws.proofs.Taken.{length-row}
+use Rattle.laws.proofs.Bounds.Invariant.{scale-le-greatest}
+use Rattle.laws.proofs.Steps.StepTaken.{length-row}
 use Rattle.ratio.specs.Ratio.{Reaching}
-use Rattle.taylor.specs.Step.{rowLaidOut, answered}
+use Rattle.taylor.specs.StepAnswers.{rowLaidOut, answered}
 use Rattle.taylor.specs.declared.step.Advance.the-variants.{Moves}
 use Rattle.taylor.specs.declared.step.Numbers.{Numbers}
 use Rattle.taylor.specs.declared.step.Stepped.{Stepped}
 use Rattle.ratio.proofs.Balls.{getD-balls, greatest-is}
-use Rattle.taylor.proofs.LaidOut.{balls-laid-out}
+use Rattle.new_row.proofs.LaidOut.{balls-laid-out}
 
 -- equal tests of each number have one answer
 every-equal : (n : ℕ) (f g : ℕ → Bool) → ((i : ℕ) → i < n → f i ≡ g i) → every n f ≡ every n g

@@ -1,3 +1,2 @@
-pub mod LaidOut
 mod StepRow
 pub mod Answers

@@ -11,10 +11,8 @@ ghost use Rattle.model.specs.Rows.{ballIn, ballsIn, ballsOf};
 ghost use Rattle.model.specs.Passage as passage;
 ghost use Rattle.coefficients.specs.Orders.{Usable};
 ghost use Rattle.ratio.specs.Ratio.{SumsOf};
-ghost use Rattle.taylor.specs.Step.{CanRow, CanStep, rowLaidOut, answered};
+ghost use Rattle.taylor.specs.StepAnswers.{CanRow, CanStep, rowLaidOut, answered};
 use coefficients::fill_orders;
-use coefficients::new_row;
-use coefficients::new_spans;
 use coefficients::start_orders;
 use model::Balls;
 use model::Head;
@@ -24,6 +22,8 @@ use model::MOST_RATIO;
 use model::Refusal;
 use model::Spans;
 use model::Terms;
+use new_row::new_balls;
+use new_row::new_spans;
 use products::PLACES;
 use ratio::SUMS;
 use ratio::Truncation;
@@ -124,27 +124,9 @@ fn row_of<'a>(
     let degree = cut.degree;
     start_orders(n, start, radii, values, reaches);
     fill_orders(n, head.step, degree, terms, values, reaches);
-    let mut row = [0i64; MOST_QUANTITIES];
-    let mut row_radii = [0u64; MOST_QUANTITIES];
-    let mut lows = [0i64; MOST_QUANTITIES];
-    let mut highs = [0i64; MOST_QUANTITIES];
-    new_row(
-        n,
-        degree,
-        cut.tail,
-        values,
-        reaches,
-        &mut row,
-        &mut row_radii,
-    );
-    new_spans(n, degree, cut.tail, values, reaches, &mut lows, &mut highs);
-    Numbers {
-        balls: Balls {
-            values: row,
-            radii: row_radii,
-        },
-        spans: Spans { lows, highs },
-    }
+    let balls = new_balls(n, degree, cut.tail, values, reaches);
+    let spans = new_spans(n, degree, cut.tail, values, reaches);
+    Numbers { balls, spans }
 }
 
 // One step of a passage from the balls `start`, with its questions. `sums` are Z0, Z1 and Z2 of its terms, and the two

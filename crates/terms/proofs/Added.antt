@@ -9,9 +9,9 @@ use lib.ListN.{length, getD, set}
 use Rattle.model.specs.Sheet.{no-term}
 use Rattle.model.specs.LikeTerms.{like, coefsLike, filter, summed}
 use Rattle.model.specs.declared.Term.{Term}
-use Rattle.laws.proofs.Like.{like-same, like-back}
-use Rattle.laws.proofs.Filters.{filter-first}
-use Rattle.laws.proofs.Gathered.{with-coef, unlike}
+use Rattle.laws.proofs.Gathering.Like.{like-same, like-back}
+use Rattle.laws.proofs.Gathering.Filters.{filter-first}
+use Rattle.laws.proofs.Gathering.Gathered.{with-coef, unlike}
 
 -- ---- one term more
 

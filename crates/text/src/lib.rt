@@ -12,7 +12,7 @@ ghost use Rattle.model.specs.Rows.{rowIn, rowsIn};
 ghost use Rattle.model.specs.Answer as answer;
 ghost use Rattle.rows.specs.Room.{HasRow, HasRows};
 ghost use Rattle.decimal.specs.Pieces.{Put, Printed};
-ghost use Rattle.text.specs.Lengths.{value-digits, most-ball, most-span-lines, most-quantity, most-row};
+ghost use Rattle.text.specs.AnswerLength.{value-digits, most-ball, most-span-lines, most-quantity, most-row};
 use decimal::ENDS;
 use decimal::put_front;
 use decimal::put_line;

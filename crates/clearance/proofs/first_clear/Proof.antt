@@ -10,11 +10,11 @@ use lib.IntN.{pos}
 use lib.ListN.{length}
 use Rattle.model.specs.Sheet.{most-quantities, most-steps, from_to_, within, n-limits}
 use Rattle.model.specs.Rows.{width}
-use Rattle.laws.proofs.Rows.{rows-fit}
+use Rattle.laws.proofs.Passages.RowPlaces.{rows-fit}
 use Rattle.rows.specs.Room.{HasRows}
 use Rattle.clear_rule.specs.Clearance.{count-limits}
-use Rattle.laws.proofs.Verdicts.{natural-within}
-use Rattle.clear_rule.proofs.Said.{n-refused, count-refused, places-refused, query-refused, rows-refused, search-decides}
+use Rattle.laws.proofs.Text.Verdicts.{natural-within}
+use Rattle.clear_rule.proofs.WholeClaim.{n-refused, count-refused, places-refused, query-refused, rows-refused, search-decides}
 use Rattle.clearance.proofs.first_clear.Statement.{statement}
 use Rattle.clearance.proofs.first_clear.Tie as tie
 

@@ -16,7 +16,7 @@ use Rattle.clear_rule.specs.Asked.{NamesRow}
 use Rattle.clear_rule.specs.Clearance.{foundNumber}
 use Rattle.clear_rule.specs.declared.Found.{Found}
 use Rattle.clear_rule.specs.declared.Found.the-variants.{At, Nowhere, Refused}
-use Rattle.clear_rule.proofs.Ranges.{below-fits, bits-are}
+use Rattle.clear_rule.proofs.SumsFit.{below-fits, bits-are}
 use Rattle.clearance.proofs.found_number.Statement.{statement}
 use Rattle.clearance.proofs.found_number.Tie as tie
 

@@ -11,7 +11,7 @@ use Rattle.clear_rule.specs.Claim.{SaidBy}
 use Rattle.clear_rule.specs.Clearance.{firstClear, foundNumber}
 use Rattle.clear_rule.specs.declared.Query.{Query}
 use Rattle.clear_rule.specs.declared.Found.{Found}
-use Rattle.clear_rule.proofs.Said.{all-said, numbered}
+use Rattle.clear_rule.proofs.WholeClaim.{all-said, numbered}
 use Rattle.clearance.proofs.planner_first_clear.Statement.{statement}
 use Rattle.clearance.proofs.planner_first_clear.Tie as tie
 

@@ -12,8 +12,8 @@ use Rattle.clear_rule.specs.Clearance.{firstClear, foundNumber}
 use Rattle.clear_rule.specs.Claim.{SaidOf}
 use Rattle.clear_rule.specs.declared.Query.{Query}
 use Rattle.clear_rule.specs.declared.Found.{Found}
-use Rattle.clear_rule.proofs.Said.{Promised}
-use Rattle.clear_rule.proofs.OwnRows.{own-said}
+use Rattle.clear_rule.proofs.WholeClaim.{Promised}
+use Rattle.clear_rule.proofs.PassageRows.{own-said}
 use Rattle.clearance.proofs.run_and_find.Statement.{statement}
 use Rattle.clearance.proofs.run_and_find.Tie as tie
 

@@ -14,13 +14,13 @@ use Rattle.stored.specs.Conversion.{sheetText, firstPart, secondPart}
 use Rattle.model.specs.declared.Ball.{Ball}
 use Rattle.model.specs.declared.Refusal.the-variants.{TooLarge}
 use Rattle.model.specs.declared.Outcome.the-variants.{Refused}
-use Rattle.laws.proofs.Rows.{length-balls}
+use Rattle.laws.proofs.Passages.RowPlaces.{length-balls}
 use Rattle.decimal.specs.Pieces.{Put}
 use Rattle.decimal.proofs.Pieces.{put-then, put-same}
 use Rattle.taylor.proofs.Answers.{small-is}
-use Rattle.sheet_text.specs.Lengths.{most-sheet}
+use Rattle.sheet_text.specs.SheetLength.{most-sheet}
 use Rattle.stored.proofs.Conversion.{first-passes, second-passes}
-use Rattle.laws.proofs.Verdicts.{few-in-sheet as few}
+use Rattle.laws.proofs.Text.Verdicts.{few-in-sheet as few}
 use Rattle.conversion.proofs.Converted.{parts-refused, parts-printed, length-refused}
 use Rattle.conversion.proofs.put_parts.Statement.{statement}
 use Rattle.conversion.proofs.put_parts.Tie as tie

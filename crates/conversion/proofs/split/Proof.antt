@@ -3,7 +3,7 @@ use native.Mathlib.Omega.{arith}
 use borrow.Author.Needs.{needs}
 use Rattle.model.specs.Sheet.{stored-steps}
 use Rattle.decimal.proofs.Pieces.{put-same}
-use Rattle.laws.proofs.Verdicts.{few-in-sheet as few}
+use Rattle.laws.proofs.Text.Verdicts.{few-in-sheet as few}
 use Rattle.conversion.proofs.Converted.{kept-written, kept-early, kept-refused, kept-last, kept-accepted, length-refused}
 use Rattle.conversion.proofs.split.Statement.{statement}
 use Rattle.conversion.proofs.split.Tie as tie

@@ -18,7 +18,7 @@ use Rattle.model.specs.declared.Quantity.{Quantity}
 use Rattle.model.specs.declared.Start.the-variants.{Reading}
 use Rattle.ranges.proofs.Ranges.{length-tabulate, map-tabulate}
 use Rattle.ranges.proofs.Stores.{stored-one-more}
-use Rattle.taylor.proofs.LaidOut.{stored-padded}
+use Rattle.new_row.proofs.LaidOut.{stored-padded}
 use Rattle.conversion.proofs.starting_from.Statement.{statement}
 use Rattle.conversion.proofs.starting_from.Tie as tie
 

@@ -6,7 +6,7 @@ use native.Mathlib.Omega.{arith}
 use lib.IntN.{pos}
 use lib.ListN.{length, length-append}
 use Rattle.model.specs.Answer.{digit, decimal}
-use Rattle.laws.proofs.Fuel.{decimal-digit}
+use Rattle.laws.proofs.Text.DecimalText.{decimal-digit}
 use Rattle.decimal.specs.Pieces.{Put, Room, pair}
 use Rattle.decimal.proofs.Decimal.{decimal-pair, decimal-pairs, length-from}
 use Rattle.decimal.proofs.Pieces.{put-nothing, put-before, put-same, put-keeps-length, room-same}

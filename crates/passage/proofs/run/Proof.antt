@@ -13,11 +13,11 @@ use Rattle.model.specs.Sheet.{most, passes, refuses, sheetVerdict, verdictOutco
 use Rattle.model.specs.LikeTerms.{gathered}
 use Rattle.model.specs.Passage.{placesNeeded, follow, run, passage, Kept}
 use Rattle.model.specs.Rows.{width, ballsOf}
-use Rattle.laws.proofs.Rows.{rows-fit}
-use Rattle.verdict.proofs.Verdicts.{refuses-as}
-use Rattle.laws.proofs.SheetBounds.{Counts}
-use Rattle.passage.proofs.Counts.{passed, can-step, can-gather}
-use Rattle.passage.proofs.Kept.{kept-refused, kept-too-few-places, kept-run, promised}
+use Rattle.laws.proofs.Passages.RowPlaces.{rows-fit}
+use Rattle.verdict.proofs.Outcomes.{refuses-as}
+use Rattle.laws.proofs.Bounds.SheetBounds.{Counts}
+use Rattle.single_step.proofs.AcceptedSheet.{passed, can-step, can-gather}
+use Rattle.enclosure.proofs.PromisedRows.{kept-refused, kept-too-few-places, kept-run, promised}
 use borrow.Author.Needs.{needs}
 use Rattle.passage.proofs.run.Statement.{statement}
 use Rattle.passage.proofs.run.Tie as tie

@@ -15,17 +15,17 @@ use Rattle.model.specs.declared.Balls.{Balls}
 use Rattle.model.specs.declared.Term.{Term}
 use Rattle.model.specs.declared.Refusal.{Refusal}
 use Rattle.model.specs.declared.Outcome.the-variants.{Refused}
-use Rattle.laws.proofs.Follow.{Underway, underway-at-start, underway-length, room-for-row, moved, finished-by-refusal, finished}
-use Rattle.laws.proofs.Taken.{degree-at-most}
+use Rattle.laws.proofs.Passages.UnderWay.{Underway, underway-at-start, underway-length, room-for-row, moved, finished-by-refusal, finished}
+use Rattle.laws.proofs.Steps.StepTaken.{degree-at-most}
 use Rattle.coefficients.specs.Orders.{Usable}
 use Rattle.coefficients.proofs.Filling.{blank-usable}
 use Rattle.ratio.specs.Ratio.{SumsOf}
-use Rattle.taylor.specs.Step.{answered}
+use Rattle.taylor.specs.StepAnswers.{answered}
 use Rattle.taylor.specs.declared.step.Numbers.{Numbers}
 use Rattle.taylor.specs.declared.step.Stepped.{Stepped}
 use Rattle.taylor.specs.declared.step.Advance.the-variants.{Stops}
-use Rattle.laws.proofs.Rows.{length-balls, length-spans}
-use Rattle.passage.proofs.Steps.{rowOf, step-moves, step-stops, radii-at-most}
+use Rattle.laws.proofs.Passages.RowPlaces.{length-balls, length-spans}
+use Rattle.passage.proofs.StepAnswered.{rowOf, step-moves, step-stops, radii-at-most}
 use borrow.Author.Needs.{needs}
 use Rattle.passage.proofs.run_steps.Statement.{statement}
 use Rattle.passage.proofs.run_steps.Tie as tie

@@ -7,7 +7,7 @@ use native.Mathlib.Omega.{arith}
 use Rattle.model.specs.Sheet.{scale, most-quantities}
 use Rattle.model.specs.Step.{Coefficients, products}
 use Rattle.model.specs.declared.Ball.{Ball}
-use Rattle.laws.proofs.Shares.{partialProducts}
+use Rattle.laws.proofs.Bounds.ShareBounds.{partialProducts}
 use Rattle.products.specs.Table.{tableIn, IsQuantity}
 use Rattle.products.proofs.OneProduct.{no-products, all-products, sum-fits, first-reached, second-reached, one-product-more}
 use Rattle.products.proofs.convolution.Statement.{statement}

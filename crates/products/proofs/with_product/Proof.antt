@@ -14,8 +14,8 @@ use Rattle.rounding.proofs.Machine.{sfits-abs}
 use Rattle.model.specs.Sheet.{scale, most}
 use Rattle.model.specs.Step.{reach}
 use Rattle.model.specs.declared.Ball.{Ball}
-use Rattle.laws.proofs.WorkingNumbers.{reaches-fit}
-use Rattle.laws.proofs.Reach.{near-close, up-close, scale-positive}
+use Rattle.laws.proofs.Bounds.WorkingNumbers.{reaches-fit}
+use Rattle.laws.proofs.Bounds.Reach.{near-close, up-close, scale-positive}
 use Rattle.products.specs.Table.{Reached}
 use borrow.Author.Needs.{needs}
 use Rattle.products.proofs.with_product.Statement.{statement}

@@ -7,7 +7,7 @@ use borrow.Author.Tests.{not-true, not-false}
 use denote.Ref.{now}
 use Rattle.model.specs.Reading.{parsed, quantities, terms, body, accepted}
 use Rattle.lines.specs.Places.{rest}
-use Rattle.lines.proofs.Parsers.{bind-parsed, bind-fault, ends, goes-on}
+use Rattle.lines.proofs.FieldsRead.{bind-parsed, bind-fault, ends, goes-on}
 use Rattle.sheet.specs.Parts.{quantitiesRead, termsRead}
 use Rattle.sheet.proofs.Arrays.{accepted-with, refused-with}
 use borrow.Author.Needs.{needs}

@@ -12,7 +12,7 @@ use Rattle.lines.specs.Places.{rest}
 use Rattle.lines.specs.Fields.{wholeRead}
 use Rattle.lines.proofs.Spellings.{read-as}
 use Rattle.sheet.specs.Parts.{headRead}
-use Rattle.lines.proofs.Parsers.{bind-parsed, bind-fault, field-holds, field-fault}
+use Rattle.lines.proofs.FieldsRead.{bind-parsed, bind-fault, field-holds, field-fault}
 use borrow.Author.Needs.{needs}
 use Rattle.sheet.proofs.read_head.Statement.{statement}
 use Rattle.sheet.proofs.read_head.Tie as tie

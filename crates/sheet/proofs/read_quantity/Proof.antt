@@ -11,7 +11,7 @@ use Rattle.model.specs.Reading.{parsed, return, start, quantity}
 use Rattle.model.specs.declared.Start.the-variants.{Reading}
 use Rattle.lines.specs.Places.{rest}
 use Rattle.lines.proofs.Spellings.{read-as}
-use Rattle.lines.proofs.Parsers.{bind-parsed, bind-fault, field-holds, field-fault}
+use Rattle.lines.proofs.FieldsRead.{bind-parsed, bind-fault, field-holds, field-fault}
 use Rattle.sheet.specs.Parts.{startRead, quantityRead}
 use borrow.Author.Needs.{needs}
 use Rattle.sheet.proofs.read_quantity.Statement.{statement}

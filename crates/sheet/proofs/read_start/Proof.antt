@@ -16,7 +16,7 @@ use Rattle.lines.specs.Fields.{wholeRead, wholeAfter}
 use Rattle.lines.specs.declared.fields.WholeLine.{WholeLine}
 use Rattle.lines.specs.declared.fields.WholeLine.the-variants.{Holds, Fault}
 use Rattle.lines.proofs.Spellings.{read-as}
-use Rattle.lines.proofs.Parsers.{bind-parsed, bind-fault}
+use Rattle.lines.proofs.FieldsRead.{bind-parsed, bind-fault}
 use Rattle.sheet.specs.Parts.{startRead}
 use borrow.Author.Needs.{needs}
 use Rattle.sheet.proofs.read_start.Statement.{statement}

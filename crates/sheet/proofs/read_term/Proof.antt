@@ -11,7 +11,7 @@ use Rattle.model.specs.Sheet.{to-limits, coef-limits, first-limits, ±_}
 use Rattle.model.specs.Reading.{parsed, return, term, field, signedField}
 use Rattle.lines.specs.Places.{rest}
 use Rattle.sheet.specs.Parts.{termRead}
-use Rattle.lines.proofs.Parsers.{bind-parsed, bind-fault, field-holds, field-fault, signed-holds, signed-fault}
+use Rattle.lines.proofs.FieldsRead.{bind-parsed, bind-fault, field-holds, field-fault, signed-holds, signed-fault}
 use borrow.Author.Needs.{needs}
 use Rattle.sheet.proofs.read_term.Statement.{statement}
 use Rattle.sheet.proofs.read_term.Tie as tie

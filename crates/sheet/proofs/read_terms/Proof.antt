@@ -12,7 +12,7 @@ use Rattle.model.specs.declared.Term.{Term}
 use Rattle.model.specs.declared.Terms.{Terms}
 use Rattle.lines.specs.Places.{rest}
 use Rattle.lines.proofs.Spellings.{read-as}
-use Rattle.lines.proofs.Parsers.{bind-parsed, bind-fault, field-holds, field-fault, field-at-most}
+use Rattle.lines.proofs.FieldsRead.{bind-parsed, bind-fault, field-holds, field-fault, field-at-most}
 use Rattle.sheet.specs.Parts.{termRead, withOutcome, termsRead}
 use Rattle.sheet.proofs.Arrays.{Filled, filled-more, filled-fault, filled-all}
 use borrow.Author.Needs.{needs}

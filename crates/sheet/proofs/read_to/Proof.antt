@@ -10,11 +10,11 @@ use lib.ListN.{length}
 use Rattle.model.specs.Sheet.{most-bytes}
 use Rattle.model.specs.Reading.{parsed, fault, _>>=_, head, body, sheet, accepted, readSheetTo}
 use Rattle.model.specs.declared.Refusal.the-variants.{Oversized}
-use Rattle.laws.proofs.Verdicts.{few-quantities}
-use Rattle.laws.proofs.Readings.{yields-head}
+use Rattle.laws.proofs.Text.Verdicts.{few-quantities}
+use Rattle.laws.proofs.Text.Readings.{yields-head}
 use Rattle.lines.specs.Places.{rest}
 use Rattle.lines.proofs.Spellings.{read-as}
-use Rattle.lines.proofs.Parsers.{bind-parsed, bind-fault, yielded}
+use Rattle.lines.proofs.FieldsRead.{bind-parsed, bind-fault, yielded}
 use Rattle.sheet.specs.Parts.{headRead}
 use borrow.Author.Needs.{needs}
 use Rattle.sheet.proofs.read_to.Statement.{statement}

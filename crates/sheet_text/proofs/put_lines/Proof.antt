@@ -11,10 +11,10 @@ use Rattle.model.specs.Sheet.{no-quantity}
 use Rattle.model.specs.Answer.{printed}
 use Rattle.stored.specs.Conversion.{headText, quantityText, sheetText}
 use Rattle.decimal.specs.Pieces.{Put}
-use Rattle.decimal.proofs.Lengths.{natural-fits, line-asked, line-put, length-natural}
+use Rattle.decimal.proofs.LineLength.{natural-fits, line-asked, line-put, length-natural}
 use Rattle.decimal.proofs.Pieces.{put-then, put-keeps-length}
-use Rattle.sheet_text.specs.Lengths.{most-head, most-quantity, most-count}
-use Rattle.sheet_text.proofs.Lengths.{SheetShort, sheet-short}
+use Rattle.sheet_text.specs.SheetLength.{most-head, most-quantity, most-count}
+use Rattle.sheet_text.proofs.SheetLength.{SheetShort, sheet-short}
 use Rattle.sheet_text.proofs.put_lines.Statement.{statement}
 use Rattle.sheet_text.proofs.put_lines.Tie as tie
 

@@ -7,9 +7,9 @@ use Rattle.ranges.specs.Range.{bytes}
 use Rattle.model.specs.Answer.{printed}
 use Rattle.stored.specs.Conversion.{startText, quantityText}
 use Rattle.decimal.specs.Pieces.{Put, Room}
-use Rattle.decimal.proofs.Lengths.{natural-fits, line-asked, line-put}
+use Rattle.decimal.proofs.LineLength.{natural-fits, line-asked, line-put}
 use Rattle.decimal.proofs.Pieces.{put-then, room-rest}
-use Rattle.sheet_text.proofs.Lengths.{QuantityShort, quantity-short, length-quantity}
+use Rattle.sheet_text.proofs.SheetLength.{QuantityShort, quantity-short, length-quantity}
 use Rattle.sheet_text.proofs.put_quantity.Statement.{statement}
 use Rattle.sheet_text.proofs.put_quantity.Tie as tie
 

@@ -11,9 +11,9 @@ use Rattle.model.specs.Answer.{printed}
 use Rattle.stored.specs.Conversion.{termText}
 use Rattle.model.specs.declared.Term.{Term}
 use Rattle.decimal.specs.Pieces.{Put, Room}
-use Rattle.decimal.proofs.Lengths.{natural-fits, line-asked, line-put, whole-asked, whole-put}
+use Rattle.decimal.proofs.LineLength.{natural-fits, line-asked, line-put, whole-asked, whole-put}
 use Rattle.decimal.proofs.Pieces.{put-then, room-first, room-rest}
-use Rattle.sheet_text.proofs.Lengths.{length-term}
+use Rattle.sheet_text.proofs.SheetLength.{length-term}
 use Rattle.sheet_text.proofs.put_term.Statement.{statement}
 use Rattle.sheet_text.proofs.put_term.Tie as tie
 

@@ -10,8 +10,8 @@ use Rattle.stored.specs.Conversion.{termText}
 use Rattle.model.specs.declared.Term.{Term}
 use Rattle.decimal.specs.Pieces.{Put}
 use Rattle.decimal.proofs.Pieces.{Grows, put-nothing, put-turn, put-same, put-keeps-length}
-use Rattle.sheet_text.specs.Lengths.{most-term}
-use Rattle.sheet_text.proofs.Pieces.{pieces-grow}
+use Rattle.sheet_text.specs.SheetLength.{most-term}
+use Rattle.sheet_text.proofs.TextsInOrder.{pieces-grow}
 use Rattle.sheet_text.proofs.put_terms.Statement.{statement}
 use Rattle.sheet_text.proofs.put_terms.Tie as tie
 

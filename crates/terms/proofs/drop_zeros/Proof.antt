@@ -10,8 +10,8 @@ use lib.Seq.{take-all}
 use Rattle.model.specs.Sheet.{most-terms, no-term, listed}
 use Rattle.model.specs.LikeTerms.{nonzero, filter}
 use Rattle.model.specs.declared.Term.{Term}
-use Rattle.laws.proofs.Filters.{filter-behind}
-use Rattle.laws.proofs.Listed.{length-listed, getD-listed}
+use Rattle.laws.proofs.Gathering.Filters.{filter-behind}
+use Rattle.laws.proofs.Bounds.CountedTerms.{length-listed, getD-listed}
 use Rattle.terms.proofs.Built.{taken-more, Built, built-none, built-past, built-more}
 use borrow.Author.Needs.{needs}
 use Rattle.terms.proofs.drop_zeros.Statement.{statement}

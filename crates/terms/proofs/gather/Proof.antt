@@ -8,8 +8,8 @@ use Rattle.model.specs.Sheet.{most-terms, listed}
 use Rattle.model.specs.LikeTerms.{filter, nonzero, summed, gathered}
 use Rattle.model.specs.declared.Term.{Term}
 use Rattle.model.specs.declared.Terms.{Terms}
-use Rattle.laws.proofs.Listed.{length-listed}
-use Rattle.laws.proofs.GatheredBounds.{summed-shorter}
+use Rattle.laws.proofs.Bounds.CountedTerms.{length-listed}
+use Rattle.laws.proofs.Gathering.GatheredBounds.{summed-shorter}
 use borrow.Author.Needs.{needs}
 use Rattle.terms.proofs.gather.Statement.{statement}
 use Rattle.terms.proofs.gather.Tie as tie

@@ -8,7 +8,7 @@ use mir.Val.{SFits, toZ, ofZ}
 use mir.Facts.{toZ-ofZ}
 use Rattle.rounding.proofs.Integers.{abs-add}
 use Rattle.rounding.proofs.Machine.{sfits-abs}
-use Rattle.laws.proofs.Gathered.{with-coef}
+use Rattle.laws.proofs.Gathering.Gathered.{with-coef}
 use Rattle.terms.proofs.plus.Statement.{statement}
 use Rattle.terms.proofs.plus.Tie as tie
 

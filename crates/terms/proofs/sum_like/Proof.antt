@@ -14,9 +14,9 @@ use Rattle.model.specs.Sheet.{most-terms, no-term, listed}
 use Rattle.model.specs.LikeTerms.{like, summed}
 use Rattle.laws.specs.Bounds.{total, most-total}
 use Rattle.model.specs.declared.Term.{Term}
-use Rattle.laws.proofs.Listed.{length-listed, few-listed, getD-listed}
-use Rattle.laws.proofs.Gathered.{with-coef}
-use Rattle.laws.proofs.GatheredBounds.{coef-le-total, total-take, total-summed}
+use Rattle.laws.proofs.Bounds.CountedTerms.{length-listed, few-listed, getD-listed}
+use Rattle.laws.proofs.Gathering.Gathered.{with-coef}
+use Rattle.laws.proofs.Gathering.GatheredBounds.{coef-le-total, total-take, total-summed}
 use Rattle.terms.proofs.Built.{taken-more, Built, built-none, built-length, built-at, built-set, built-more}
 use Rattle.terms.proofs.Added.{added, added-to, added-behind, summed-more}
 use borrow.Author.Needs.{needs}

@@ -16,7 +16,7 @@ use Rattle.model.specs.declared.Ball.{Ball}
 use Rattle.model.specs.declared.Span.{Span}
 use Rattle.decimal.specs.Pieces.{Put}
 use Rattle.decimal.proofs.Pieces.{Grows, put-nothing, put-then, put-turn, put-same, put-keeps-length}
-use Rattle.text.specs.Lengths.{value-digits, most-quantity}
+use Rattle.text.specs.AnswerLength.{value-digits, most-quantity}
 use Rattle.text.proofs.Lines.{quantityLines, ballAt, spanAt, length-row-balls, length-row-spans, all-balls, all-spans, quantities-grow}
 use Rattle.text.proofs.put_quantities.Statement.{statement}
 use Rattle.text.proofs.put_quantities.Tie as tie

@@ -12,7 +12,7 @@ use Rattle.ranges.specs.Range.{bytes}
 use Rattle.model.specs.Rows.{rowIn}
 use Rattle.model.specs.Answer.{printed, quantitiesText, rowsText}
 use Rattle.decimal.specs.Pieces.{Put, most-line}
-use Rattle.decimal.proofs.Lengths.{line-asked, line-put, length-natural}
+use Rattle.decimal.proofs.LineLength.{line-asked, line-put, length-natural}
 use Rattle.decimal.proofs.Pieces.{put-then, put-same, put-keeps-length}
 use Rattle.text.proofs.put_row.Statement.{statement}
 use Rattle.text.proofs.put_row.Tie as tie

@@ -6,7 +6,7 @@ use borrow.Author.Tests.{not-true, not-false}
 use lib.IntN.{pos}
 use Rattle.rounding.proofs.Machine.{of-number}
 use Rattle.model.specs.Sheet.{most-steps, headVerdict, stepVerdict, ask, _then_, within, inRange, n-limits, steps-limits, stepWithin, tail-limits, tol-limits, from_to_, scale, most}
-use Rattle.verdict.proofs.Verdicts.{answer-is, answered-no, answered-yes}
+use Rattle.verdict.proofs.Outcomes.{answer-is, answered-no, answered-yes}
 use borrow.Author.Needs.{needs}
 use Rattle.verdict.proofs.head_within.Statement.{statement}
 use Rattle.verdict.proofs.head_within.Tie as tie

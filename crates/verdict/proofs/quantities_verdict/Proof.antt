@@ -8,7 +8,7 @@ use mathlib.Core.List.{List}
 use lib.ListN.{getD}
 use Rattle.model.specs.Sheet.{verdictOutcome, quantitiesVerdict, passes, inOrder, Verdict, quantityVerdict, no-quantity}
 use Rattle.model.specs.declared.Quantity.{Quantity}
-use Rattle.verdict.proofs.Verdicts.{passes-as, refuses-as, one-more, first-refusal}
+use Rattle.verdict.proofs.Outcomes.{passes-as, refuses-as, one-more, first-refusal}
 use Rattle.verdict.proofs.quantities_verdict.Statement.{statement}
 use Rattle.verdict.proofs.quantities_verdict.Tie as tie
 

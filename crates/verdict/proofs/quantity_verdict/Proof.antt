@@ -5,7 +5,7 @@ use lib.IntN.{pos}
 use mathlib.Core.Bool.{Bool}
 use Rattle.model.specs.Sheet.{verdictOutcome, ask, inRange, startVerdict, quantityVerdict, radius-limits, from_to_, most}
 use Rattle.model.specs.declared.Refusal.the-variants.{OutOfRange}
-use Rattle.verdict.proofs.Verdicts.{refused-first, passed-first}
+use Rattle.verdict.proofs.Outcomes.{refused-first, passed-first}
 use borrow.Author.Needs.{needs}
 use Rattle.verdict.proofs.quantity_verdict.Statement.{statement}
 use Rattle.verdict.proofs.quantity_verdict.Tie as tie

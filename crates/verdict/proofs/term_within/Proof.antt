@@ -5,7 +5,7 @@ use mathlib.Core.Bool.{true}
 use lib.IntN.{pos}
 use mir.Facts.{toZ-ofZ}
 use Rattle.model.specs.Sheet.{ask, _then_, within, inRange, termVerdict, to-limits, coef-limits, first-limits, ±_}
-use Rattle.verdict.proofs.Verdicts.{answer-is, answered-no, answered-yes}
+use Rattle.verdict.proofs.Outcomes.{answer-is, answered-no, answered-yes}
 use borrow.Author.Needs.{needs}
 use Rattle.verdict.proofs.term_within.Statement.{statement}
 use Rattle.verdict.proofs.term_within.Tie as tie

@@ -10,8 +10,8 @@ use lib.IntN.{pos}
 use lib.ListN.{getD}
 use Rattle.model.specs.Sheet.{most-terms, Verdict, passes, ask, _then_, inOrder, from_to_, within, terms-limits, inRange, termVerdict, termsVerdict, no-term}
 use Rattle.model.specs.declared.Terms.{Terms}
-use Rattle.laws.proofs.Verdicts.{natural-within}
-use Rattle.verdict.proofs.Verdicts.{answered-no, answered-yes, one-more, first-refusal}
+use Rattle.laws.proofs.Text.Verdicts.{natural-within}
+use Rattle.verdict.proofs.Outcomes.{answered-no, answered-yes, one-more, first-refusal}
 use Rattle.verdict.proofs.terms_within.Statement.{statement}
 use Rattle.verdict.proofs.terms_within.Tie as tie
 

@@ -5,8 +5,8 @@ use mathlib.Core.Bool.{Bool}
 use borrow.Author.Tests.{not-true, not-false}
 use Rattle.model.specs.Sheet.{most-steps, Verdict, passes, verdictOutcome, ask, _then_, headVerdict, quantitiesVerdict, sheetVerdictTo, sheetVerdict}
 use Rattle.model.specs.declared.Refusal.the-variants.{OutOfRange}
-use Rattle.laws.proofs.Verdicts.{few-quantities}
-use Rattle.verdict.proofs.Verdicts.{passes-as, refused-first, verdict-numbered}
+use Rattle.laws.proofs.Text.Verdicts.{few-quantities}
+use Rattle.verdict.proofs.Outcomes.{passes-as, refused-first, verdict-numbered}
 use borrow.Author.Needs.{needs}
 use Rattle.verdict.proofs.verdict.Statement.{statement}
 use Rattle.verdict.proofs.verdict.Tie as tie

@@ -13,7 +13,7 @@ use Rattle.rounding.proofs.Machine.{of-number}
 use Rattle.ranges.specs.Range as range
 use Rattle.model.specs.Sheet.{within}
 use Rattle.model.specs.declared.Limits.{Limits}
-use Rattle.ranges.proofs.Tests.{every-none, every-more, every-fails}
+use Rattle.ranges.proofs.EveryLaws.{every-none, every-more, every-fails}
 use Rattle.clear_search.proofs.questions.all_within.Statement.{statement}
 use Rattle.clear_search.proofs.questions.all_within.Tie as tie
 

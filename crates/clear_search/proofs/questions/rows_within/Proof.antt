@@ -6,7 +6,7 @@ use mathlib.Core.Path.{_≡_, sym, ap, _∙_}
 use native.Mathlib.Omega.{arith}
 use borrow.Author.Tests.{not-true, not-false}
 use Rattle.ranges.specs.Range as range
-use Rattle.ranges.proofs.Tests.{every-none, every-more, every-fails}
+use Rattle.ranges.proofs.EveryLaws.{every-none, every-more, every-fails}
 use Rattle.rows.proofs.Places.{has-row}
 use Rattle.clear_rule.specs.Clearance.{rowWithin}
 use Rattle.clear_search.proofs.questions.rows_within.Statement.{statement}

@@ -10,7 +10,7 @@ use mir.Val.{toZ}
 use Rattle.model.specs.Sheet.{scale}
 use Rattle.model.specs.Rows.{rowIn}
 use Rattle.clear_rule.specs.Clearance.{weight}
-use Rattle.clear_rule.proofs.Ranges.{assured-to}
+use Rattle.clear_rule.proofs.SumsFit.{assured-to}
 use Rattle.clear_rule.proofs.Weighing.{base-held, base-summed, product-held, sum-held, end-summed, all-assured}
 use Rattle.clear_search.proofs.search.assured.Statement.{statement}
 use Rattle.clear_search.proofs.search.assured.Tie as tie

@@ -14,7 +14,7 @@ use Rattle.model.specs.Rows.{rowIn}
 use Rattle.clear_rule.specs.Asked.{Weighable}
 use Rattle.clear_rule.specs.Clearance.{assured, certain}
 use Rattle.clear_rule.specs.declared.Query.{Query}
-use Rattle.clear_rule.proofs.Ranges.{query-ranges, row-ranges, need-fits, below-fits, bits-are}
+use Rattle.clear_rule.proofs.SumsFit.{query-ranges, row-ranges, need-fits, below-fits, bits-are}
 use Rattle.clear_search.proofs.search.certain.Statement.{statement}
 use Rattle.clear_search.proofs.search.certain.Tie as tie
 

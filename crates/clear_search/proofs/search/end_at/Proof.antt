@@ -4,7 +4,7 @@ use mathlib.Core.Path.{sym, _∙_}
 use borrow.Author.Needs.{needs}
 use mir.Facts.{toZ-ofZ}
 use Rattle.rounding.proofs.Machine.{sign-test}
-use Rattle.clear_rule.proofs.Ranges.{high-taken, low-taken}
+use Rattle.clear_rule.proofs.SumsFit.{high-taken, low-taken}
 use Rattle.clear_search.proofs.search.end_at.Statement.{statement}
 use Rattle.clear_search.proofs.search.end_at.Tie as tie
 

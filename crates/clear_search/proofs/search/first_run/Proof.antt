@@ -9,12 +9,12 @@ use lib.IntN.{ℤ}
 use Rattle.model.specs.Rows.{rowIn, rowsIn}
 use Rattle.model.specs.Step.{no-row}
 use Rattle.ranges.proofs.Ranges.{getD-tabulate}
-use Rattle.laws.proofs.Verdicts.{every-holds}
+use Rattle.ranges.proofs.EveryLaws.{every-holds}
 use Rattle.rows.proofs.Places.{has-row}
 use Rattle.clear_rule.specs.Asked.{Weighable, Searchable}
 use Rattle.clear_rule.specs.Clearance.{certain, rowWithin}
 use Rattle.clear_rule.specs.declared.Query.{Query}
-use Rattle.clear_rule.proofs.Ranges.{query-ranges, length-rows}
+use Rattle.clear_rule.proofs.SumsFit.{query-ranges, length-rows}
 use Rattle.clear_rule.proofs.FirstRun.{certainly}
 use Rattle.clear_rule.proofs.Streaks.{Streak, no-streak, found-nowhere, counted-full, counted-on}
 use Rattle.clear_search.proofs.search.first_run.Statement.{statement}

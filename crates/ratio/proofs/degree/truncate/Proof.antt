@@ -13,7 +13,7 @@ use Rattle.model.specs.Sheet.{scale, most}
 use Rattle.model.specs.Step as rule
 use Rattle.model.specs.Step.{most-degree}
 use Rattle.model.specs.Passage.{most-ratio}
-use Rattle.laws.proofs.Degree.{majorant-le, tail-vanishes, degree-is-least, IsDegree}
+use Rattle.laws.proofs.Steps.Degree.{majorant-le, tail-vanishes, degree-is-least, IsDegree}
 use Rattle.ratio.proofs.degree.truncate.Statement.{statement}
 use Rattle.ratio.proofs.degree.truncate.Tie as tie
 

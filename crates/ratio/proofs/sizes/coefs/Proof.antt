@@ -12,9 +12,9 @@ use Rattle.model.specs.Step as rule
 use Rattle.model.specs.declared.Term.{Term}
 use Rattle.model.specs.declared.Terms.{Terms}
 use Rattle.ranges.proofs.Ranges.{sum-suc}
-use Rattle.laws.proofs.RatioNumbers.{coefs-fit}
+use Rattle.laws.proofs.Bounds.RatioNumbers.{coefs-fit}
 use Rattle.laws.specs.Bounds.{total, most-total}
-use Rattle.laws.proofs.Listed.{length-listed, few-listed, getD-listed}
+use Rattle.laws.proofs.Bounds.CountedTerms.{length-listed, few-listed, getD-listed}
 use borrow.Author.Needs.{needs}
 use Rattle.ratio.proofs.sizes.coefs.Statement.{statement}
 use Rattle.ratio.proofs.sizes.coefs.Tie as tie

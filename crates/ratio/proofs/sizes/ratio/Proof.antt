@@ -10,7 +10,7 @@ use Rattle.rounding.specs.Rounding.{up}
 use Rattle.ranges.specs.Range as range
 use Rattle.model.specs.Sheet.{scale}
 use Rattle.ranges.proofs.Ranges.{largest-bounded}
-use Rattle.laws.proofs.RatioNumbers.{size-of-sums-fits}
+use Rattle.laws.proofs.Bounds.RatioNumbers.{size-of-sums-fits}
 use Rattle.ratio.specs.Ratio.{Bounded, Reaching, sizeBy, ratioBy}
 use borrow.Author.Needs.{needs}
 use Rattle.ratio.proofs.sizes.ratio.Statement.{statement}

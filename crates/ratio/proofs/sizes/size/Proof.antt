@@ -8,7 +8,7 @@ use lib.ListN.{getD}
 use Rattle.rounding.specs.Rounding.{up}
 use Rattle.model.specs.Sheet.{scale}
 use Rattle.laws.specs.Bounds.{most-total}
-use Rattle.laws.proofs.RatioNumbers.{scaled-sum-fits, greatest-sum-fits, size-of-sums-fits}
+use Rattle.laws.proofs.Bounds.RatioNumbers.{scaled-sum-fits, greatest-sum-fits, size-of-sums-fits}
 use Rattle.ratio.specs.Ratio.{counts, sumAt, Bounded, Reaching, sizeBy}
 use Rattle.ratio.proofs.Ratios.{first-place}
 use borrow.Author.Needs.{needs}

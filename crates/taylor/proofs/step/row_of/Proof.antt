@@ -16,9 +16,9 @@ use Rattle.model.specs.declared.Term.{Term}
 use Rattle.products.specs.Table.{tableIn, Small}
 use Rattle.coefficients.specs.Orders.{startIn, Filled}
 use Rattle.coefficients.proofs.Filled.{filled-small}
-use Rattle.laws.proofs.Rows.{length-balls}
+use Rattle.laws.proofs.Passages.RowPlaces.{length-balls}
 use Rattle.ratio.proofs.Balls.{getD-balls}
-use Rattle.taylor.proofs.LaidOut.{stored-laid-out, stored-spans}
+use Rattle.new_row.proofs.LaidOut.{stored-laid-out, stored-spans}
 use Rattle.taylor.proofs.StepRow.{start-is, row-is}
 use Rattle.taylor.proofs.step.row_of.Statement.{statement}
 use Rattle.taylor.proofs.step.row_of.Tie as tie

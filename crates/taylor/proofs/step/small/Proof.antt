@@ -16,7 +16,7 @@ use Rattle.ranges.specs.Range as range
 use Rattle.model.specs.Sheet.{most}
 use Rattle.model.specs.Step.{reach}
 use Rattle.model.specs.Rows.{ballIn}
-use Rattle.ranges.proofs.Tests.{every-none, every-more, every-fails}
+use Rattle.ranges.proofs.EveryLaws.{every-none, every-more, every-fails}
 use borrow.Author.Needs.{needs}
 use Rattle.taylor.proofs.step.small.Statement.{statement}
 use Rattle.taylor.proofs.step.small.Tie as tie

@@ -2,7 +2,7 @@
 use mathlib.Core.Path.{refl}
 use Rattle.model.specs.Sheet.{padded}
 use Rattle.model.specs.Rows.{spansLaidOut, no-spans}
-use Rattle.taylor.specs.Step.{answered}
+use Rattle.taylor.specs.StepAnswers.{answered}
 use Rattle.taylor.proofs.step.stopped.Statement.{statement}
 use Rattle.taylor.proofs.step.stopped.Tie as tie
 

@@ -5,7 +5,7 @@ use mathlib.Core.Bool.{true}
 use mathlib.Core.List.{List}
 use mathlib.Core.Path.{_≡_, sym, ap, _∙_}
 use native.Mathlib.Omega.{arith}
-use Rattle.laws.proofs.Rows.{length-balls}
+use Rattle.laws.proofs.Passages.RowPlaces.{length-balls}
 use borrow.Author.Needs.{needs}
 use borrow.Author.Tests.{not-true, not-false, leb-true}
 use lib.Dec.{leb}
@@ -21,10 +21,10 @@ use Rattle.model.specs.Rows.{ballIn, ballsOf}
 use Rattle.model.specs.declared.Ball.{Ball}
 use Rattle.model.specs.declared.Head.{Head}
 use Rattle.model.specs.declared.Term.{Term}
-use Rattle.laws.proofs.Verdicts.{every-holds}
-use Rattle.laws.proofs.Degree.{IsDegree, degree-is-least}
+use Rattle.ranges.proofs.EveryLaws.{every-holds}
+use Rattle.laws.proofs.Steps.Degree.{IsDegree, degree-is-least}
 use Rattle.ratio.specs.Ratio.{Reaching}
-use Rattle.taylor.specs.Step.{rowLaidOut}
+use Rattle.taylor.specs.StepAnswers.{rowLaidOut}
 use Rattle.taylor.specs.declared.step.Numbers.{Numbers}
 use Rattle.ratio.proofs.Ratios as ratios
 use Rattle.taylor.proofs.Answers.{too-large, too-long, intolerable, moved, greatest-within, in-bounds}

@@ -6,7 +6,7 @@ use mir.Facts.{toZ-ofZ}
 use Rattle.model.specs.Reading.{return}
 use Rattle.lines.specs.Fields.{wholeRead, naturalRead, naturalAfter}
 use Rattle.lines.proofs.Spellings.{read-as}
-use Rattle.lines.proofs.Parsers.{bind-parsed, bind-fault}
+use Rattle.lines.proofs.FieldsRead.{bind-parsed, bind-fault}
 use borrow.Author.Needs.{needs}
 use Rattle.lines.proofs.cursor.Cursor.natural_field.Statement.{statement}
 use Rattle.lines.proofs.cursor.Cursor.natural_field.Tie as tie

@@ -1,0 +1,81 @@
+-- `new_row::new_spans` meets its contract. The loop's invariant: the lows and highs of the quantities passed are stored.
+-- Assumes nothing.
+use Prim.Native.Nat.{_-_, _≤_}
+use mathlib.Core.Path.{_≡_, refl}
+use native.Mathlib.Omega.{arith}
+use lib.Seq.{sets}
+use mir.Syntax.{w64}
+use mir.Val.{SFits}
+use mir.Facts.{toZ-ofZ}
+use Rattle.ranges.specs.Range.{tabulate}
+use Rattle.model.specs.Step.{newSpan}
+use Rattle.ranges.proofs.Stores.{stored-in-front}
+use Rattle.products.specs.Table.{tableIn}
+use Rattle.new_row.proofs.new_spans.Statement.{statement}
+use Rattle.new_row.proofs.new_spans.Tie as tie
+
+abbrev Inv-loop : tie.InvT-loop
+Inv-loop n degree tail values reaches lows₀ highs₀ i₀ lows highs i =
+    (i ≤ n) × (lows ≡ sets lows₀ 0 (tabulate i (λ k. newSpan (tableIn degree values reaches) degree tail k .low))) × (highs ≡ sets highs₀ 0 (tabulate i (λ k. newSpan (tableIn degree values reaches) degree tail k .high)))
+
+abbrev μ-loop : tie.MeasureT-loop
+μ-loop n degree tail values reaches lows₀ highs₀ i₀ lows highs i = n - i
+
+loop-holds : tie.Need-loop-holds Inv-loop μ-loop
+unfolding tabulate
+loop-holds c = (omega arith, refl, refl)
+
+loop-again : tie.Need-loop-again Inv-loop μ-loop
+loop-again c =
+    let turn = c .before .before .before .before in
+    let args = turn .before .args in
+    let span = c .before .before .new-span in
+    let low-fits : SFits w64 (span .result .low) = record { sfits = c .before .struct-told .given .0 .1 } in
+    let high-fits : SFits w64 (span .result .high) = record { sfits = c .struct-told2 .given .1 .0 .1 } in
+    (omega arith, rw (toZ-ofZ low-fits, span .ensures) (stored-in-front (args .lows .now) (turn .loop .i) _ (turn .loop .inv .1)), rw (toZ-ofZ high-fits, span .ensures) (stored-in-front (args .highs .now) (turn .loop .i) _ (turn .loop .inv .2)))
+
+returns : tie.Need-returns Inv-loop μ-loop
+returns c = rw all (c .before .loop .inv .1, c .before .loop .inv .2)
+  where
+    all : c .before .before .args .n ≡ c .before .loop .i
+    all = omega arith
+
+new-span-requires : tie.Need-new-span-requires Inv-loop μ-loop
+new-span-requires c κs =
+    let at-start = c .before .before in
+    ((at-start .pre .0 .1, omega arith), (at-start .pre .1 .0, at-start .pre .1 .1))
+
+mul-low : tie.Need-mul-low Inv-loop μ-loop
+mul-low c = omega arith
+
+element-set-from-low : tie.Need-element-set-from-low Inv-loop μ-loop
+element-set-from-low c = omega arith
+
+mul-high : tie.Need-mul-high Inv-loop μ-loop
+mul-high c = omega arith
+
+element-set-from-high : tie.Need-element-set-from-high Inv-loop μ-loop
+element-set-from-high c = omega arith
+
+add-i : tie.Need-add-i Inv-loop μ-loop
+add-i c = omega arith
+
+loop-less : tie.Need-loop-less Inv-loop μ-loop
+loop-less c = omega arith
+
+pub new-spans-spec : {M : Type 1} → statement M
+new-spans-spec =
+    tie.close
+    (tie.spec
+    Inv-loop
+    μ-loop
+    loop-holds
+    new-span-requires
+    mul-low
+    element-set-from-low
+    mul-high
+    element-set-from-high
+    add-i
+    loop-less
+    loop-again
+    returns)

@@ -1,0 +1,2 @@
+pub mod AcceptedSheet
+mod AnswerNumber
