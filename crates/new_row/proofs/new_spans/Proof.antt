@@ -3,20 +3,25 @@
 use Prim.Native.Nat.{_-_, _≤_}
 use mathlib.Core.Path.{_≡_, refl}
 use native.Mathlib.Omega.{arith}
+use lib.IntN.{pos}
+use lib.ListN.{replicate}
 use lib.Seq.{sets}
 use mir.Syntax.{w64}
 use mir.Val.{SFits}
 use mir.Facts.{toZ-ofZ}
 use Rattle.ranges.specs.Range.{tabulate}
+use Rattle.model.specs.Sheet.{most-quantities}
 use Rattle.model.specs.Step.{newSpan}
 use Rattle.ranges.proofs.Stores.{stored-in-front}
 use Rattle.products.specs.Table.{tableIn}
+use Rattle.new_row.proofs.LaidOut.{stored-spans}
 use Rattle.new_row.proofs.new_spans.Statement.{statement}
 use Rattle.new_row.proofs.new_spans.Tie as tie
 
+-- the lows and the highs of the first i quantities, in arrays of zeros
 abbrev Inv-loop : tie.InvT-loop
 Inv-loop n degree tail values reaches lows₀ highs₀ i₀ lows highs i =
-    (i ≤ n) × (lows ≡ sets lows₀ 0 (tabulate i (λ k. newSpan (tableIn degree values reaches) degree tail k .low))) × (highs ≡ sets highs₀ 0 (tabulate i (λ k. newSpan (tableIn degree values reaches) degree tail k .high)))
+    (i ≤ n) × (lows ≡ sets (replicate most-quantities (pos 0)) 0 (tabulate i (λ k. newSpan (tableIn degree values reaches) degree tail k .low))) × (highs ≡ sets (replicate most-quantities (pos 0)) 0 (tabulate i (λ k. newSpan (tableIn degree values reaches) degree tail k .high)))
 
 abbrev μ-loop : tie.MeasureT-loop
 μ-loop n degree tail values reaches lows₀ highs₀ i₀ lows highs i = n - i
@@ -28,34 +33,33 @@ loop-holds c = (omega arith, refl, refl)
 loop-again : tie.Need-loop-again Inv-loop μ-loop
 loop-again c =
     let turn = c .before .before .before .before in
-    let args = turn .before .args in
     let span = c .before .before .new-span in
     let low-fits : SFits w64 (span .result .low) = record { sfits = c .before .struct-told .given .0 .1 } in
     let high-fits : SFits w64 (span .result .high) = record { sfits = c .struct-told2 .given .1 .0 .1 } in
-    (omega arith, rw (toZ-ofZ low-fits, span .ensures) (stored-in-front (args .lows .now) (turn .loop .i) _ (turn .loop .inv .1)), rw (toZ-ofZ high-fits, span .ensures) (stored-in-front (args .highs .now) (turn .loop .i) _ (turn .loop .inv .2)))
+    (omega arith, rw (toZ-ofZ low-fits, span .ensures) (stored-in-front _ (turn .loop .i) _ (turn .loop .inv .1)), rw (toZ-ofZ high-fits, span .ensures) (stored-in-front _ (turn .loop .i) _ (turn .loop .inv .2)))
 
 returns : tie.Need-returns Inv-loop μ-loop
-returns c = rw all (c .before .loop .inv .1, c .before .loop .inv .2)
-  where
-    all : c .before .before .args .n ≡ c .before .loop .i
-    all = omega arith
+returns c =
+    let at-start = c .before .before in
+    let all : at-start .args .n ≡ c .before .loop .i = omega arith in
+    stored-spans (at-start .args .n) _ (at-start .pre .0 .0) (rw all (c .before .loop .inv .1)) (rw all (c .before .loop .inv .2))
 
 new-span-requires : tie.Need-new-span-requires Inv-loop μ-loop
 new-span-requires c κs =
     let at-start = c .before .before in
     ((at-start .pre .0 .1, omega arith), (at-start .pre .1 .0, at-start .pre .1 .1))
 
-mul-low : tie.Need-mul-low Inv-loop μ-loop
-mul-low c = omega arith
+mul-lows : tie.Need-mul-lows Inv-loop μ-loop
+mul-lows c = omega arith
 
-element-set-from-low : tie.Need-element-set-from-low Inv-loop μ-loop
-element-set-from-low c = omega arith
+array-set-from-lows : tie.Need-array-set-from-lows Inv-loop μ-loop
+array-set-from-lows c = omega arith
 
-mul-high : tie.Need-mul-high Inv-loop μ-loop
-mul-high c = omega arith
+mul-highs : tie.Need-mul-highs Inv-loop μ-loop
+mul-highs c = omega arith
 
-element-set-from-high : tie.Need-element-set-from-high Inv-loop μ-loop
-element-set-from-high c = omega arith
+array-set-from-highs : tie.Need-array-set-from-highs Inv-loop μ-loop
+array-set-from-highs c = omega arith
 
 add-i : tie.Need-add-i Inv-loop μ-loop
 add-i c = omega arith
@@ -71,10 +75,10 @@ new-spans-spec =
     μ-loop
     loop-holds
     new-span-requires
-    mul-low
-    element-set-from-low
-    mul-high
-    element-set-from-high
+    mul-lows
+    array-set-from-lows
+    mul-highs
+    array-set-from-highs
     add-i
     loop-less
     loop-again

@@ -8,17 +8,16 @@ use mir.Syntax.{w64}
 use mir.Val.{toZ, ofZ}
 use mir.Facts.{toZ-ofZ}
 use Rattle.model.specs.Sheet.{most, most-quantities, listed}
-use Rattle.model.specs.Step.{most-degree, reach, newBall, newSpan}
+use Rattle.model.specs.Step.{most-degree, reach}
 use Rattle.model.specs.Rows.{ballIn, ballsIn}
 use Rattle.laws.specs.Bounds.{InBounds}
 use Rattle.model.specs.declared.Ball.{Ball}
 use Rattle.model.specs.declared.Term.{Term}
-use Rattle.products.specs.Table.{tableIn, Small}
+use Rattle.products.specs.Table.{Small}
 use Rattle.coefficients.specs.Orders.{startIn, Filled}
 use Rattle.coefficients.proofs.Filled.{filled-small}
 use Rattle.laws.proofs.Passages.RowPlaces.{length-balls}
 use Rattle.ratio.proofs.Balls.{getD-balls}
-use Rattle.new_row.proofs.LaidOut.{stored-laid-out, stored-spans}
 use Rattle.taylor.proofs.StepRow.{start-is, row-is}
 use Rattle.taylor.proofs.step.row_of.Statement.{statement}
 use Rattle.taylor.proofs.step.row_of.Tie as tie
@@ -55,23 +54,18 @@ still-started : (c : tie.After-fill-orders) →
     startIn (at-start .args .head .n) (c .fill-orders .last .1 .1 .1 .1 .0) (c .fill-orders .last .1 .1 .1 .1 .1 .0) ≡ balls at-start
 still-started c = c .fill-orders .ensures .0 ∙ started (c .before .before .before .before)
 
--- the filled table, from the new row and from the spans
-abbrev at-filled : tie.After-new-row → tie.After-fill-orders
-at-filled c = c .before .before .before .before .before
+-- the filled table, from the new balls and from the spans
+abbrev at-filled : tie.After-new-balls → tie.After-fill-orders
+at-filled c = c .before .before .before
 
-abbrev at-row : tie.After-new-spans → tie.After-new-row
-at-row c = c .before .before .before .before .before
+abbrev at-balls : tie.After-new-spans → tie.After-new-balls
+at-balls c = c .before .before .before
 
 returns : tie.Need-returns
 returns c =
-    let row = at-row c in
-    let table = at-filled row in
+    let table = at-filled (at-balls c) in
     let at-start = table .before .before .before .before .before .before .before in
-    let cut = at-start .args .cut in
-    let coefficients = tableIn (cut .degree) (table .fill-orders .last .1 .1 .1 .1 .0) (table .fill-orders .last .1 .1 .1 .1 .1 .0) in
-    let balls-stored = stored-laid-out (at-start .args .head .n) (newBall coefficients (cut .degree) (cut .tail)) (at-start .pre .room) (row .new-row .ensures .0) (row .new-row .ensures .1) in
-    let spans-stored = stored-spans (at-start .args .head .n) (newSpan coefficients (cut .degree) (cut .tail)) (at-start .pre .room) (c .new-spans .ensures .0) (c .new-spans .ensures .1) in
-    (row-is (filled table) (at-start .pre .room) (balls at-start) (cut .tail) (still-started table) (length-balls _ _ _) balls-stored spans-stored, filled table .usable)
+    (row-is (filled table) (at-start .pre .room) (balls at-start) (at-start .args .cut .tail) (still-started table) (length-balls _ _ _) (at-balls c .new-balls .ensures) (c .new-spans .ensures), filled table .usable)
 
 -- ---- what the calls ask
 
@@ -103,12 +97,12 @@ sums-asked c =
     let at-start = c .before .before .before .before .before .before .before in
     ((at-start .pre .room, at-start .pre .degree), (at-start .pre .tail, filled-small (filled c) (rw (still-started c) (at-start .pre .bounds))))
 
-new-row-requires : tie.Need-new-row-requires
-new-row-requires c κs = sums-asked (c .before .before .before .before)
+new-balls-requires : tie.Need-new-balls-requires
+new-balls-requires c κs = sums-asked (c .before .before)
 
 new-spans-requires : tie.Need-new-spans-requires
-new-spans-requires c κs = sums-asked (at-filled (c .before .before .before .before))
+new-spans-requires c κs = sums-asked (at-filled (c .before .before))
 
 pub row-of-spec : {M : Type 1} → statement M
 row-of-spec =
-    tie.close (tie.spec start-orders-requires fill-orders-requires new-row-requires new-spans-requires returns)
+    tie.close (tie.spec start-orders-requires fill-orders-requires new-balls-requires new-spans-requires returns)
