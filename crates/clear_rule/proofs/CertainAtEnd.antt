@@ -19,7 +19,8 @@ use Rattle.model.specs.Passage.{passage}
 use Rattle.model.specs.declared.Ball.{Ball}
 use Rattle.model.specs.declared.Sheet.{Sheet}
 use Rattle.model.specs.declared.Span.{Span}
-use Rattle.enclosure.proofs.Distrust.{case-A, row-between, rows-of-A, whole}
+use Rattle.enclosure.proofs.Distrust.{every-exact, case-A, whole}
+use Rattle.enclosure.proofs.DistrustBetween.{row-between, rows-of-A}
 use Rattle.enclosure.proofs.EndsBetween.{EndsBetween, AllEndsBetween, passage-ends-between}
 use Rattle.ranges.proofs.Lists.{each-at}
 use Rattle.laws.proofs.Passages.RowsOfPassage.{rows-of-passage}
@@ -146,5 +147,5 @@ unfolding certain certain-at-end assured assured-at-end weight endFor scale sum 
 not-conversely = rw rows-of-A (refl, refl)
 
 pub end-is-not-enough : ClearsAllTheWay needing (termsOf (case-A (pos 4194304))) (pos 4194304) 2 whole → ⊥
-unfolding ClearsAllTheWay needing weight case-A whole exactSum sumDenominator sumNumerator ordersTo order nextOrder product factorℤ bringsℤ binomial sumℤ tabulate listed termsOf termsHeld padded no-term scale pow one
+unfolding every-exact ClearsAllTheWay needing weight whole
 end-is-not-enough clears = clears 0 1 (omega arith) (omega arith) 2 (omega arith) .enough .le

@@ -8,8 +8,8 @@ use denote.Ref.{now}
 use Rattle.model.specs.Reading.{parsed, quantities, terms, body, accepted}
 use Rattle.lines.specs.Places.{rest}
 use Rattle.lines.proofs.FieldsRead.{bind-parsed, bind-fault, ends, goes-on}
-use Rattle.sheet.specs.Parts.{quantitiesRead, termsRead}
-use Rattle.sheet.proofs.Arrays.{accepted-with, refused-with}
+use Rattle.sheet_body.specs.BodyRead.{quantitiesRead, termsRead}
+use Rattle.sheet_body.proofs.Arrays.{accepted-with, refused-with}
 use borrow.Author.Needs.{needs}
 use Rattle.sheet.proofs.read_body.Statement.{statement}
 use Rattle.sheet.proofs.read_body.Tie as tie

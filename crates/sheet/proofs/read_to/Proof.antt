@@ -15,7 +15,7 @@ use Rattle.laws.proofs.Text.Readings.{yields-head}
 use Rattle.lines.specs.Places.{rest}
 use Rattle.lines.proofs.Spellings.{read-as}
 use Rattle.lines.proofs.FieldsRead.{bind-parsed, bind-fault, yielded}
-use Rattle.sheet.specs.Parts.{headRead}
+use Rattle.sheet_head.specs.HeadRead.{headRead}
 use borrow.Author.Needs.{needs}
 use Rattle.sheet.proofs.read_to.Statement.{statement}
 use Rattle.sheet.proofs.read_to.Tie as tie

@@ -1,4 +1,4 @@
--- `sheet::read_term` meets its contract: its lines one after the other.
+-- `sheet_body::read_term` meets its contract: its lines one after the other.
 -- Assumes nothing.
 use Prim.Native.Nat.{ℕ}
 use mathlib.Core.Path.{_≡_, refl, sym, _∙_}
@@ -10,11 +10,11 @@ use Rattle.ranges.specs.Range.{bytes}
 use Rattle.model.specs.Sheet.{to-limits, coef-limits, first-limits, ±_}
 use Rattle.model.specs.Reading.{parsed, return, term, field, signedField}
 use Rattle.lines.specs.Places.{rest}
-use Rattle.sheet.specs.Parts.{termRead}
+use Rattle.sheet_body.specs.BodyRead.{termRead}
 use Rattle.lines.proofs.FieldsRead.{bind-parsed, bind-fault, field-holds, field-fault, signed-holds, signed-fault}
 use borrow.Author.Needs.{needs}
-use Rattle.sheet.proofs.read_term.Statement.{statement}
-use Rattle.sheet.proofs.read_term.Tie as tie
+use Rattle.sheet_body.proofs.read_term.Statement.{statement}
+use Rattle.sheet_body.proofs.read_term.Tie as tie
 
 abbrev text : tie.After-field → List ℕ
 text c = now (c .before .before .before .before .before .before .args .text)

@@ -1,9 +1,9 @@
--- `sheet::no_quantity` meets its contract.
+-- `sheet_body::no_quantity` meets its contract.
 -- Assumes nothing.
 use mathlib.Core.Path.{refl}
 use Rattle.model.specs.Sheet.{no-quantity}
-use Rattle.sheet.proofs.no_quantity.Statement.{statement}
-use Rattle.sheet.proofs.no_quantity.Tie as tie
+use Rattle.sheet_body.proofs.no_quantity.Statement.{statement}
+use Rattle.sheet_body.proofs.no_quantity.Tie as tie
 
 returns : tie.Need-returns
 unfolding no-quantity

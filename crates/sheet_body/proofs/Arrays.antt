@@ -15,7 +15,7 @@ use Rattle.model.specs.declared.Refusal.{Refusal}
 use Rattle.model.specs.declared.Outcome.{Outcome}
 use Rattle.model.specs.declared.Outcome.the-variants.{Accepted, Refused}
 use Rattle.lines.proofs.FieldsRead.{bind-parsed, bind-fault}
-use Rattle.sheet.specs.Parts.{withOutcome}
+use Rattle.sheet_body.specs.BodyRead.{withOutcome}
 
 module _ {A : Type 0} (p : Parser A) (from : List ℕ) where
   one-more : (i : ℕ) {xs : List A} {x : A} {here next : List ℕ} → times i p from ≡ parsed xs here → p here ≡ parsed x next → times (suc i) p from ≡ parsed (xs ++ (x ∷ [])) next

@@ -1,4 +1,4 @@
--- `sheet::read_quantity` meets its contract: its lines one after the other.
+-- `sheet_body::read_quantity` meets its contract: its lines one after the other.
 -- Assumes nothing.
 use Prim.Native.Nat.{ℕ}
 use mathlib.Core.Path.{_≡_, refl, sym, _∙_}
@@ -12,10 +12,10 @@ use Rattle.model.specs.declared.Start.the-variants.{Reading}
 use Rattle.lines.specs.Places.{rest}
 use Rattle.lines.proofs.Spellings.{read-as}
 use Rattle.lines.proofs.FieldsRead.{bind-parsed, bind-fault, field-holds, field-fault}
-use Rattle.sheet.specs.Parts.{startRead, quantityRead}
+use Rattle.sheet_body.specs.BodyRead.{startRead, quantityRead}
 use borrow.Author.Needs.{needs}
-use Rattle.sheet.proofs.read_quantity.Statement.{statement}
-use Rattle.sheet.proofs.read_quantity.Tie as tie
+use Rattle.sheet_body.proofs.read_quantity.Statement.{statement}
+use Rattle.sheet_body.proofs.read_quantity.Tie as tie
 
 abbrev text : tie.After-field → List ℕ
 text c = now (c .before .before .before .before .args .text)

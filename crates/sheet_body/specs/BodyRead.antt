@@ -1,11 +1,10 @@
--- What the answers of the reader say of its text, for each part of a sheet: what was read with the bytes after it, or the
+-- What the answers of the reader say of its text, for each part below a sheet's head: what was read with the bytes after it, or the
 -- first refusal.
 use Prim.Native.Nat.{ℕ}
 use mathlib.Core.List.{List}
 use Rattle.model.specs.Reading.{Parsed, parsed, fault}
 use Rattle.model.specs.declared.Outcome.{Outcome}
 use Rattle.model.specs.declared.Outcome.the-variants.{Accepted, Refused}
-use Rattle.model.specs.declared.Head.{Head}
 use Rattle.model.specs.declared.Start.{Start}
 use Rattle.model.specs.declared.Start.the-variants.{Reading}
 use Rattle.model.specs.declared.Quantity.{Quantity}
@@ -14,19 +13,12 @@ use Rattle.model.specs.declared.Terms.{Terms}
 use Rattle.lines.specs.Places.{rest}
 use Rattle.lines.specs.declared.fields.WholeLine.{WholeLine}
 use Rattle.lines.specs.declared.fields.WholeLine.the-variants as whole
-use Rattle.sheet.specs.declared.HeadLines.{HeadLines}
-use Rattle.sheet.specs.declared.HeadLines.the-variants as headLines
-use Rattle.sheet.specs.declared.QuantityLines.{QuantityLines}
-use Rattle.sheet.specs.declared.QuantityLines.the-variants as quantityLines
-use Rattle.sheet.specs.declared.ReadQuantities.{ReadQuantities}
-use Rattle.sheet.specs.declared.TermLines.{TermLines}
-use Rattle.sheet.specs.declared.TermLines.the-variants as termLines
-use Rattle.sheet.specs.declared.ReadTerms.{ReadTerms}
-
--- the lines above the quantities
-unfoldable pub headRead : List ℕ → HeadLines → Parsed Head
-headRead text (headLines.Hold head next) = parsed head (rest text next)
-headRead text (headLines.Fault r) = fault r
+use Rattle.sheet_body.specs.declared.QuantityLines.{QuantityLines}
+use Rattle.sheet_body.specs.declared.QuantityLines.the-variants as quantityLines
+use Rattle.sheet_body.specs.declared.ReadQuantities.{ReadQuantities}
+use Rattle.sheet_body.specs.declared.TermLines.{TermLines}
+use Rattle.sheet_body.specs.declared.TermLines.the-variants as termLines
+use Rattle.sheet_body.specs.declared.ReadTerms.{ReadTerms}
 
 -- a start
 unfoldable pub startRead : List ℕ → WholeLine → Parsed Start

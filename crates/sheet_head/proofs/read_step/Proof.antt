@@ -1,4 +1,4 @@
--- `sheet::read_step` meets its contract: the line, and then the step's range.
+-- `sheet_head::read_step` meets its contract: the line, and then the step's range.
 -- Assumes nothing.
 use mathlib.Core.Path.{_≡_, sym, _∙_}
 use denote.Ref.{now}
@@ -11,8 +11,8 @@ use Rattle.lines.specs.Places.{rest, spelledAt, spelling, lineAfter}
 use Rattle.lines.specs.Fields.{wholeRead}
 use Rattle.lines.proofs.Spellings.{read-as, ranged-wrong, ranged-inside, ranged-outside}
 use borrow.Author.Needs.{needs}
-use Rattle.sheet.proofs.read_step.Statement.{statement}
-use Rattle.sheet.proofs.read_step.Tie as tie
+use Rattle.sheet_head.proofs.read_step.Statement.{statement}
+use Rattle.sheet_head.proofs.read_step.Tie as tie
 
 returns : tie.Need-returns
 unfolding wholeRead step line lineAfter spelling bytes spelledAt

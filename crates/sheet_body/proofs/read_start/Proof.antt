@@ -1,4 +1,4 @@
--- `sheet::read_start` meets its contract.
+-- `sheet_body::read_start` meets its contract.
 -- Assumes nothing.
 use Prim.Native.Nat.{ℕ}
 use mathlib.Core.Path.{_≡_, sym}
@@ -17,10 +17,10 @@ use Rattle.lines.specs.declared.fields.WholeLine.{WholeLine}
 use Rattle.lines.specs.declared.fields.WholeLine.the-variants.{Holds, Fault}
 use Rattle.lines.proofs.Spellings.{read-as}
 use Rattle.lines.proofs.FieldsRead.{bind-parsed, bind-fault}
-use Rattle.sheet.specs.Parts.{startRead}
+use Rattle.sheet_body.specs.BodyRead.{startRead}
 use borrow.Author.Needs.{needs}
-use Rattle.sheet.proofs.read_start.Statement.{statement}
-use Rattle.sheet.proofs.read_start.Tie as tie
+use Rattle.sheet_body.proofs.read_start.Statement.{statement}
+use Rattle.sheet_body.proofs.read_start.Tie as tie
 
 -- `none` is no reading
 missing : (l : List ℕ) {m : List ℕ} → after (bytes "start=none\n") l ≡ some m → start l ≡ fault NoReading

@@ -1,4 +1,4 @@
--- `sheet::read_terms` meets its contract. The invariant: the lines so far gave the front of the list.
+-- `sheet_body::read_terms` meets its contract. The invariant: the lines so far gave the front of the list.
 -- Assumes nothing.
 use Prim.Native.Nat.{ℕ, _-_, _≤_}
 use mathlib.Core.Path.{_≡_, refl, sym, ap, _∙_}
@@ -13,11 +13,11 @@ use Rattle.model.specs.declared.Terms.{Terms}
 use Rattle.lines.specs.Places.{rest}
 use Rattle.lines.proofs.Spellings.{read-as}
 use Rattle.lines.proofs.FieldsRead.{bind-parsed, bind-fault, field-holds, field-fault, field-at-most}
-use Rattle.sheet.specs.Parts.{termRead, withOutcome, termsRead}
-use Rattle.sheet.proofs.Arrays.{Filled, filled-more, filled-fault, filled-all}
+use Rattle.sheet_body.specs.BodyRead.{termRead, withOutcome, termsRead}
+use Rattle.sheet_body.proofs.Arrays.{Filled, filled-more, filled-fault, filled-all}
 use borrow.Author.Needs.{needs}
-use Rattle.sheet.proofs.read_terms.Statement.{statement}
-use Rattle.sheet.proofs.read_terms.Tie as tie
+use Rattle.sheet_body.proofs.read_terms.Statement.{statement}
+use Rattle.sheet_body.proofs.read_terms.Tie as tie
 
 abbrev Inv-loop : tie.InvT-loop
 Inv-loop text n terms₀ cursor₀ j₀ j-end terms cursor j =

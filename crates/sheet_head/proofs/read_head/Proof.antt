@@ -1,4 +1,4 @@
--- `sheet::read_head` meets its contract: its lines one after the other.
+-- `sheet_head::read_head` meets its contract: its lines one after the other.
 -- Assumes nothing.
 use Prim.Native.Nat.{ℕ}
 use mathlib.Core.Path.{_≡_, refl, sym, _∙_}
@@ -11,11 +11,11 @@ use Rattle.model.specs.Reading.{parsed, return, field, step, head}
 use Rattle.lines.specs.Places.{rest}
 use Rattle.lines.specs.Fields.{wholeRead}
 use Rattle.lines.proofs.Spellings.{read-as}
-use Rattle.sheet.specs.Parts.{headRead}
+use Rattle.sheet_head.specs.HeadRead.{headRead}
 use Rattle.lines.proofs.FieldsRead.{bind-parsed, bind-fault, field-holds, field-fault}
 use borrow.Author.Needs.{needs}
-use Rattle.sheet.proofs.read_head.Statement.{statement}
-use Rattle.sheet.proofs.read_head.Tie as tie
+use Rattle.sheet_head.proofs.read_head.Statement.{statement}
+use Rattle.sheet_head.proofs.read_head.Tie as tie
 
 abbrev text : tie.After-field → List ℕ
 text c = now (c .before .before .before .before .before .args .text)

@@ -1,4 +1,4 @@
--- `sheet::read_quantities` meets its contract. The invariant: the lines so far gave the front of the list.
+-- `sheet_body::read_quantities` meets its contract. The invariant: the lines so far gave the front of the list.
 -- Assumes nothing.
 use Prim.Native.Nat.{_-_, _≤_}
 use mathlib.Core.Path.{refl, sym}
@@ -7,12 +7,12 @@ use denote.Ref.{now}
 use Rattle.model.specs.Sheet.{most-quantities, no-quantity, quantitiesHeld}
 use Rattle.model.specs.Reading.{return, times, quantity, quantities}
 use Rattle.lines.specs.Places.{rest}
-use Rattle.sheet.specs.Parts.{quantityRead, withOutcome, quantitiesRead}
+use Rattle.sheet_body.specs.BodyRead.{quantityRead, withOutcome, quantitiesRead}
 use Rattle.lines.proofs.Spellings.{read-as}
-use Rattle.sheet.proofs.Arrays.{Filled, filled-more, filled-fault, filled-all}
+use Rattle.sheet_body.proofs.Arrays.{Filled, filled-more, filled-fault, filled-all}
 use borrow.Author.Needs.{needs}
-use Rattle.sheet.proofs.read_quantities.Statement.{statement}
-use Rattle.sheet.proofs.read_quantities.Tie as tie
+use Rattle.sheet_body.proofs.read_quantities.Statement.{statement}
+use Rattle.sheet_body.proofs.read_quantities.Tie as tie
 
 abbrev Inv-loop : tie.InvT-loop
 Inv-loop text n quantities₀ cursor₀ i₀ quantities cursor i =
