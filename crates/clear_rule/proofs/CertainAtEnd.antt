@@ -5,15 +5,14 @@ use mathlib.Core.Bool.{Bool, true, false}
 use mathlib.Core.List.{List, [], _∷_}
 use mathlib.Core.Path.{_≡_, refl, sym, ap, _∙_}
 use native.Mathlib.Omega.{arith}
-use lib.IntN.{ℤ, pos, negsuc, negℤ, natAbs, _+ℤ_, _-ℤ_, _*ℤ_, pow, one, *ℤ-comm, pos-*ℤ-pos}
+use lib.IntN.{ℤ, pos, negsuc, negℤ, natAbs, _+ℤ_, _-ℤ_, _*ℤ_, *ℤ-comm, pos-*ℤ-pos}
 use lib.ListN.{length, getD, length-take}
 use lib.Seq.{getD-take}
 use lib.Signed.{leZ, _≤ℤ_, leZ-yes}
 use Rattle.rounding.proofs.Integers.{ringℤ, add-parts, neg-parts, pos-parts, le-parts, parts-le, le-scaled, le-test, le-sums, le-neg}
-use Rattle.ranges.specs.Range.{sum, sumℤ, tabulate}
-use Rattle.model.specs.Sheet.{scale, no-term, listed, termsOf, padded, termsHeld}
-use Rattle.enclosure.specs.Exact.{binomial, order, factorℤ, product, nextOrder, ordersTo, sumDenominator, sumNumerator, exactSum}
-use Rattle.model.specs.Step.{bringsℤ, no-ball, no-span, Row, no-row}
+use Rattle.ranges.specs.Range.{sum, sumℤ}
+use Rattle.model.specs.Sheet.{scale, termsOf}
+use Rattle.model.specs.Step.{no-ball, no-span, Row, no-row}
 use Rattle.model.specs.Rows.{rowsIn}
 use Rattle.model.specs.Passage.{passage}
 use Rattle.model.specs.declared.Ball.{Ball}

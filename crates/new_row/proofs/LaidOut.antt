@@ -1,34 +1,19 @@
 -- A row's balls and spans in arrays with 0 past its quantities: storing them leaves them so, and they are read from there as they were. Assumes nothing.
-use Prim.Native.Nat.{ℕ, zero, suc, _-_, _≤_, _<_}
+use Prim.Native.Nat.{ℕ, _≤_, _<_}
 use mathlib.Core.List.{List, map}
-use mathlib.Core.Path.{_≡_, refl, _∙_}
-use native.Mathlib.Nat.{zero-add}
-use native.Mathlib.Numerals.{unary-clauses}
-use native.Mathlib.Omega.{arith}
+use mathlib.Core.Path.{_≡_, _∙_}
 use lib.IntN.{ℤ, pos}
-use lib.ListN.{length, getD, drop, replicate, length-map, length-replicate, List·getD-append, List·getD-map}
-use lib.Seq.{sets, sets-eq}
+use lib.ListN.{length, getD, replicate, length-map, List·getD-append, List·getD-map}
+use lib.Seq.{sets}
 use Rattle.ranges.specs.Range.{tabulate}
 use Rattle.model.specs.Sheet.{most-quantities, padded}
 use Rattle.model.specs.Step.{no-ball, no-span}
 use Rattle.model.specs.declared.Ball.{Ball}
 use Rattle.model.specs.declared.Span.{Span}
 use Rattle.ranges.proofs.Ranges.{length-tabulate, map-tabulate, tabulate-is}
+use Rattle.laws.proofs.Passages.Padded.{stored-padded}
 use Rattle.model.specs.Rows.{ballIn, ballsIn, laidOut, spansOf, spansLaidOut}
 use Rattle.products.proofs.TablePlaces.{ball-equal}
-
-module _ {A : Type 0} (last : A) where
-  -- what is left of an array of one number behind its first k places
-  drop-replicate : (k size : ℕ) → drop k (replicate size last) ≡ replicate (size - k) last
-  drop-replicate zero size = simp unary-clauses refl
-  drop-replicate (suc k) zero = let none : 0 - suc k ≡ 0 = omega arith in rw none
-  drop-replicate (suc k) (suc size) = simp unary-clauses (drop-replicate k size)
-
-  -- a list stored from the front of an array of one number is padded with that number
-  pub stored-padded : (size : ℕ) (xs : List A) → length xs ≤ size → sets (replicate size last) 0 xs ≡ padded size last xs
-  unfolding padded
-  stored-padded size xs h =
-      sets-eq xs (replicate size last) 0 (rw length-replicate (omega arith)) ∙ rw (zero-add (length xs), drop-replicate (length xs) size)
 
 -- the balls f 0, .., f (n - 1) stored in arrays of zeros
 pub stored-laid-out : (n : ℕ) (f : ℕ → Ball) → n ≤ most-quantities → {values : List ℤ} {radii : List ℕ} → values ≡ sets (replicate most-quantities (pos 0)) 0 (tabulate n (λ i. f i .value)) → radii ≡ sets (replicate most-quantities 0) 0 (tabulate n (λ i. f i .radius)) → record { values = values; radii = radii } ≡ laidOut (tabulate n f)

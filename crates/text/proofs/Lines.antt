@@ -1,18 +1,17 @@
 -- The text of quantities and of rows, one more at a time. Assumes nothing.
 use Prim.Native.Nat.{ℕ, suc, _+_}
-use mathlib.Core.Path.{_≡_, refl, sym, ap, _∙_}
+use mathlib.Core.Path.{_≡_, sym, ap, _∙_}
 use mathlib.Core.List.{List, [], _∷_, _++_, append-assoc, append-nil}
 use native.Mathlib.Nat.{add-zero, add-suc, suc-add}
 use native.Mathlib.Omega.{arith}
-use lib.IntN.{ℤ, pos}
-use lib.ListN.{length, getD}
+use lib.IntN.{pos}
+use lib.ListN.{length}
 use Rattle.ranges.specs.Range.{tabulate}
-use Rattle.model.specs.Step.{no-ball, no-span, Row}
-use Rattle.model.specs.Rows.{rowIn}
+use Rattle.model.specs.Step.{Row}
 use Rattle.model.specs.Answer.{printed, quantitiesText, rowsText}
 use Rattle.model.specs.declared.Ball.{Ball}
 use Rattle.model.specs.declared.Span.{Span}
-use Rattle.ranges.proofs.Ranges.{length-tabulate, tabulate-is}
+use Rattle.ranges.proofs.Ranges.{length-tabulate}
 use Rattle.decimal.proofs.Pieces.{Grows}
 
 -- the lines of one quantity: of its ball, and of its span
@@ -39,33 +38,6 @@ unfolding rowsText
 rows-append number [] more = rw (add-zero number)
 rows-append number (row ∷ some) more =
     rw (rows-append (suc number) some more, add-suc number (length some), suc-add number (length some)) (sym (append-assoc (printed "row" (pos number) ++ printed "degree" (pos (row .degree)) ++ quantitiesText (row .balls) (row .spans)) (rowsText (suc number) some) (rowsText (suc (number + length some)) more)))
-
--- ball i of row j of a buffer
-abbrev pub ballAt : ℕ → List ℤ → ℕ → ℕ → Ball
-ballAt n rows j i = getD (rowIn n rows j .balls) i no-ball
-
--- its span i
-abbrev pub spanAt : ℕ → List ℤ → ℕ → ℕ → Span
-spanAt n rows j i = getD (rowIn n rows j .spans) i no-span
-
-pub length-row-balls : (n : ℕ) (rows : List ℤ) (j : ℕ) → length (rowIn n rows j .balls) ≡ n
-unfolding rowIn
-length-row-balls n rows j = length-tabulate n _
-
-pub length-row-spans : (n : ℕ) (rows : List ℤ) (j : ℕ) → length (rowIn n rows j .spans) ≡ n
-unfolding rowIn
-length-row-spans n rows j = length-tabulate n _
-
--- the first n are all
-pub all-balls : (n : ℕ) (rows : List ℤ) (j : ℕ) → tabulate n (ballAt n rows j) ≡ rowIn n rows j .balls
-unfolding rowIn
-all-balls n rows j =
-    tabulate-is n (ballAt n rows j) no-ball (rowIn n rows j .balls) (length-row-balls n rows j) (λ i h. refl)
-
-pub all-spans : (n : ℕ) (rows : List ℤ) (j : ℕ) → tabulate n (spanAt n rows j) ≡ rowIn n rows j .spans
-unfolding rowIn
-all-spans n rows j =
-    tabulate-is n (spanAt n rows j) no-span (rowIn n rows j .spans) (length-row-spans n rows j) (λ i h. refl)
 
 -- a quantity more
 pub quantities-grow : (ball : ℕ → Ball) (span : ℕ → Span) → Grows (λ i. quantitiesText (tabulate i ball) (tabulate i span)) (λ i. quantityLines (ball i) (span i))

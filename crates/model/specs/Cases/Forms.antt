@@ -1,7 +1,7 @@
 -- What a worked case is: what the definitions come to, and what they should come to. The tables of the chapters are lists of such.
 use Prim.Native.Nat.{ℕ}
 use Prim.Native.Char.{code}
-use Prim.Native.String.{String, _++_ as _&_}
+use Prim.Native.String.{String}
 use mathlib.Core.Bool.{Bool, true, false}
 use mathlib.Core.List.{List, [], _∷_, map}
 use mathlib.Core.Path.{_≡_}
@@ -9,7 +9,7 @@ use lib.IntN.{ℤ, pos, negℤ, _+ℤ_, _-ℤ_}
 use lib.ListN.{length, take, drop, replicate}
 use Rattle.rounding.specs.Rounding.{near, up}
 use Rattle.ranges.specs.Range.{bytes}
-use Rattle.model.specs.Sheet.{result, refusedStep, quantitiesHeld, termsHeld, termsOf}
+use Rattle.model.specs.Sheet.{result, refusedStep, termsOf}
 use Rattle.model.specs.Reading.{Spelled, spelled, wrong, natural, signed, readSheetTo, readSheet}
 use Rattle.model.specs.LikeTerms.{gathered}
 use Rattle.model.specs.Step.{Ball, Row}
@@ -17,7 +17,7 @@ use Rattle.model.specs.Passage.{Advance, stepOf, passage, rowsWritten}
 use Rattle.model.specs.Rows.{written, rowsIn}
 use Rattle.model.specs.Answer.{decimal, runOf, answer}
 use Rattle.model.specs.declared.Outcome.{Outcome}
-use Rattle.model.specs.declared.Start.the-variants.{Reading, Missing}
+use Rattle.model.specs.declared.Start.the-variants.{Reading}
 use Rattle.model.specs.declared.Quantity.{Quantity}
 use Rattle.model.specs.declared.Sheet.{Sheet}
 use Rattle.model.specs.declared.Term.{Term}

@@ -1,4 +1,4 @@
--- `conversion::balls_of` meets its contract. The loop's invariant: the arrays begin with the balls passed. Assumes nothing.
+-- `sheet_parts::balls_of` meets its contract. The loop's invariant: the arrays begin with the balls passed. Assumes nothing.
 use Prim.Native.Nat.{_-_, _≤_}
 use mathlib.Core.Path.{refl}
 use native.Mathlib.Omega.{arith}
@@ -10,9 +10,9 @@ use Rattle.model.specs.Step.{no-ball}
 use Rattle.model.specs.Rows.{rowIn, ballIn, ballsIn}
 use Rattle.ranges.proofs.Ranges.{tabulate-is}
 use Rattle.ranges.proofs.Stores.{Begins, begins-with-none, begins-with-one-more}
-use Rattle.text.proofs.Lines.{ballAt, length-row-balls}
-use Rattle.conversion.proofs.balls_of.Statement.{statement}
-use Rattle.conversion.proofs.balls_of.Tie as tie
+use Rattle.laws.proofs.Passages.RowRead.{ballAt, length-row-balls}
+use Rattle.sheet_parts.proofs.balls_of.Statement.{statement}
+use Rattle.sheet_parts.proofs.balls_of.Tie as tie
 
 abbrev Inv-loop : tie.InvT-loop
 Inv-loop n rows row values₀ radii₀ i₀ values radii i =

@@ -1,4 +1,4 @@
--- `conversion::starting_from` meets its contract. After i turns the first i quantities stand in the array. Assumes nothing.
+-- `sheet_parts::starting_from` meets its contract. After i turns the first i quantities stand in the array. Assumes nothing.
 use Prim.Native.Nat.{ℕ, _+_, _-_, _≤_}
 use mathlib.Core.List.{List, map}
 use mathlib.Core.Path.{_≡_, sym, ap, _∙_}
@@ -18,9 +18,9 @@ use Rattle.model.specs.declared.Quantity.{Quantity}
 use Rattle.model.specs.declared.Start.the-variants.{Reading}
 use Rattle.ranges.proofs.Ranges.{length-tabulate, map-tabulate}
 use Rattle.ranges.proofs.Stores.{stored-one-more}
-use Rattle.new_row.proofs.LaidOut.{stored-padded}
-use Rattle.conversion.proofs.starting_from.Statement.{statement}
-use Rattle.conversion.proofs.starting_from.Tie as tie
+use Rattle.laws.proofs.Passages.Padded.{stored-padded}
+use Rattle.sheet_parts.proofs.starting_from.Statement.{statement}
+use Rattle.sheet_parts.proofs.starting_from.Tie as tie
 
 -- the quantity that starts from ball i
 starting : Balls → ℕ → Quantity

@@ -1,4 +1,4 @@
--- `conversion::second_part` meets its contract: the sheet with another head and other starts. Assumes nothing.
+-- `sheet_parts::second_part` meets its contract: the sheet with another head and other starts. Assumes nothing.
 use Prim.Native.Nat.{_-_}
 use mathlib.Core.List.{List, map}
 use mathlib.Core.Path.{_≡_, ap, _∙_}
@@ -10,8 +10,8 @@ use Rattle.model.specs.declared.Balls.{Balls}
 use Rattle.model.specs.declared.Head.{Head}
 use Rattle.model.specs.declared.Quantity.{Quantity}
 use Rattle.model.specs.declared.Sheet.{Sheet}
-use Rattle.conversion.proofs.second_part.Statement.{statement}
-use Rattle.conversion.proofs.second_part.Tie as tie
+use Rattle.sheet_parts.proofs.second_part.Statement.{statement}
+use Rattle.sheet_parts.proofs.second_part.Tie as tie
 
 second-is : (sheet : Sheet) (balls : Balls) {head : Head} {quantities : List Quantity} → head ≡ withSteps (sheet .head .steps - most-steps) (sheet .head) → quantities ≡ quantitiesHeld (map startingFrom (ballsOf (head .n) balls)) → record { head = head; quantities = quantities; terms = sheet .terms } ≡ secondPart most-steps sheet (ballsOf (sheet .head .n) balls)
 unfolding secondPart withSteps

@@ -1,8 +1,8 @@
--- `conversion::with_steps` meets its contract. Assumes nothing.
+-- `sheet_parts::with_steps` meets its contract. Assumes nothing.
 use borrow.Author.Needs.{needs}
 use Rattle.stored.specs.Conversion.{withSteps}
-use Rattle.conversion.proofs.with_steps.Statement.{statement}
-use Rattle.conversion.proofs.with_steps.Tie as tie
+use Rattle.sheet_parts.proofs.with_steps.Statement.{statement}
+use Rattle.sheet_parts.proofs.with_steps.Tie as tie
 
 returns : tie.Need-returns
 unfolding withSteps

@@ -1,8 +1,8 @@
--- `conversion::first_part` meets its contract: the sheet with another head. Assumes nothing.
+-- `sheet_parts::first_part` meets its contract: the sheet with another head. Assumes nothing.
 use borrow.Author.Needs.{needs}
 use Rattle.stored.specs.Conversion.{firstPart}
-use Rattle.conversion.proofs.first_part.Statement.{statement}
-use Rattle.conversion.proofs.first_part.Tie as tie
+use Rattle.sheet_parts.proofs.first_part.Statement.{statement}
+use Rattle.sheet_parts.proofs.first_part.Tie as tie
 
 returns : tie.Need-returns
 unfolding firstPart
