@@ -1,5 +1,4 @@
 -- What comes of a sheet's bytes with lent places: with places enough it is document 01's; its rows stand in the buffer and are trusted.
--- Assumes nothing.
 use Prim.Native.Nat.{ℕ, _*_, _≤_, _<_}
 use mathlib.Core.List.{List}
 use mathlib.Core.Path.{_≡_, refl, sym, ap, _∙_}

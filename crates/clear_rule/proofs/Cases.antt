@@ -1,4 +1,4 @@
--- Every case of the table holds, by computation; and what holds of the table holds of each of its cases. Assumes nothing.
+-- Every case of the table holds, by computation; and what holds of the table holds of each of its cases.
 use mathlib.Core.List.{List, [], _∷_}
 use mathlib.Core.Path.{_≡_, refl, ap}
 use lib.IntN.{ℤ, pos}

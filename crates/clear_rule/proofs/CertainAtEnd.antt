@@ -1,5 +1,5 @@
 -- A row that a passage wrote and that is certain is certain at the end of its step too, by its values and radii alone, as document 02, CR 2 had it; and not
--- conversely, nor would that be enough. Its lows are no higher than its highs. Assumes nothing.
+-- conversely, nor would that be enough. Its lows are no higher than its highs.
 use Prim.Native.Nat.{ℕ, zero, suc, _*_, _<_}
 use mathlib.Core.Bool.{Bool, true, false}
 use mathlib.Core.List.{List, [], _∷_}

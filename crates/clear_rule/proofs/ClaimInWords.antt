@@ -1,6 +1,6 @@
 -- What the records of the claim come to, said without them: an answer to every weight and need holds each exact sum within a step between the row's lows and
 -- highs, of any rows that a passage wrote and of a passage's own; of refusals only 9 and 3 are answers about those; a row that is named, by itself or as a
--- number, opens a run, all of whose steps are clear all the way, with their beginnings and their ends. Assumes nothing.
+-- number, opens a run, all of whose steps are clear all the way, with their beginnings and their ends.
 use Prim.Native.Nat.{ℕ, zero, suc, _+_, _*_, _≤_, _<_}
 use mathlib.Core.Bool.{true, false≢true}
 use mathlib.Core.List.{List}

@@ -1,6 +1,6 @@
 -- The claim is as strong as that about the water between the rows: where for one base and one run, whatever they are, it holds for all weights and needs,
 -- every exact sum at every fraction of every row's step lies between the row's lows and highs, from the exact states that any start within its radii and
--- any degrees lead to. So it is a claim about every row, every fraction and every degree. Assumes nothing.
+-- any degrees lead to. So it is a claim about every row, every fraction and every degree.
 use Prim.Native.Nat.{ℕ, zero, suc, _*_, _≤_, _<_}
 use mathlib.Core.Bool.{true}
 use mathlib.Core.List.{List, [], _∷_}

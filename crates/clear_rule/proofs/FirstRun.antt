@@ -1,4 +1,4 @@
--- The first run: what the search comes to, that it is what the words say, and that the words name no other answer. Assumes nothing.
+-- The first run: what the search comes to, that it is what the words say, and that the words name no other answer.
 use Prim.Native.Nat.{ℕ, zero, suc, _+_, _≤_, _<_}
 use mathlib.Core.Bool.{Bool, true, false, cond, and-false, false≢true}
 use mathlib.Core.List.{List}

@@ -1,5 +1,5 @@
 -- What passes the questions before the search is just what is in range: n, the count, the places, the query, and every value, radius, low and high of every
--- counted row. Assumes nothing.
+-- counted row.
 use Prim.Native.Nat.{ℕ, _*_, _≤_, _<_}
 use mathlib.Core.Bool.{Bool, true, false≢true}
 use mathlib.Core.List.{List}

@@ -1,5 +1,5 @@
 -- The rows that a passage has written itself: they are in their ranges and in their places, so that of the questions only those on n and on the
--- query are left; and demand 3 holds of them without a premise. Assumes nothing.
+-- query are left; and demand 3 holds of them without a premise.
 use Prim.Native.Nat.{ℕ, _*_, _≤_, _<_}
 use mathlib.Core.Bool.{Bool, true, false}
 use mathlib.Core.List.{List}

@@ -1,5 +1,5 @@
 -- What a pilot may say: every exact state between a certain row's lows and highs clears the need, by the weights; and so, of every certain row that a passage
--- wrote, does each exact sum within its step, by demand 3 up to the step and by the water between the rows within it. Assumes nothing.
+-- wrote, does each exact sum within its step, by demand 3 up to the step and by the water between the rows within it.
 use Prim.Native.Nat.{ℕ, zero, suc, _+_, _≤_, _<_}
 use mathlib.Core.Bool.{true}
 use mathlib.Core.List.{List}

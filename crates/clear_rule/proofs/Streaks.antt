@@ -1,5 +1,5 @@
 -- One pass over the rows: how many certain ones in a row there are so far, and that every run that opened before them is broken. It finds the first
--- run, or that there is none. Assumes nothing.
+-- run, or that there is none.
 use Prim.Native.Nat.{ℕ, suc, _+_, _-_, _≤_, _<_}
 use mathlib.Core.Bool.{Bool, true, false, cond}
 use mathlib.Core.List.{List}

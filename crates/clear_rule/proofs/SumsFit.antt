@@ -1,4 +1,4 @@
--- What the questions before the search say: the ranges of the query and of a row; and so no sum that weighs a row reaches 2^62. Assumes nothing.
+-- What the questions before the search say: the ranges of the query and of a row; and so no sum that weighs a row reaches 2^62.
 use Prim.Native.Nat.{ℕ, _*_, _^_, _≤_, _<_}
 use mathlib.Core.Bool.{true, false, _&&_}
 use mathlib.Core.List.{List}

@@ -1,5 +1,5 @@
 -- A row whose lows are no higher than its highs is certain just where every exact state between them clears the need: of a row that is not, the state with
--- each number at the end that its weight takes does not. Assumes nothing.
+-- each number at the end that its weight takes does not.
 use Prim.Native.Nat.{ℕ, _<_}
 use mathlib.Core.Bool.{Bool, true, false, false≢true}
 use mathlib.Core.Path.{_≡_, refl, sym, ap, _∙_}

@@ -1,4 +1,4 @@
--- The sum that weighs a row, by the bits that the code holds it in: it is the definition's, and it never leaves 64 bits. Assumes nothing.
+-- The sum that weighs a row, by the bits that the code holds it in: it is the definition's, and it never leaves 64 bits.
 use Prim.Native.Nat.{ℕ, suc, _^_, _<_}
 use mathlib.Core.List.{List}
 use mathlib.Core.Path.{_≡_, sym, ap, ap₂, _∙_}

@@ -1,4 +1,4 @@
--- The whole claim: that the answer says what it says whatever is asked, and that it is so question by question, as the code asks them. Assumes nothing.
+-- The whole claim: that the answer says what it says whatever is asked, and that it is so question by question, as the code asks them.
 use Prim.Native.Nat.{ℕ, _*_, _≤_, _<_}
 use mathlib.Core.Bool.{true, false}
 use mathlib.Core.List.{List}

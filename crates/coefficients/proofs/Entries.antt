@@ -1,4 +1,4 @@
--- An entry of a table written at its place: no other order of any quantity has that place, so the others stay. Assumes nothing.
+-- An entry of a table written at its place: no other order of any quantity has that place, so the others stay.
 use Prim.Native.Nat.{ℕ, _+_, _-_, _≤_, _<_}
 use mathlib.Core.List.{List}
 use mathlib.Core.Logic.{⊎-elim}

@@ -1,5 +1,5 @@
 -- A table that holds the coefficients of a step in bounds: its reaches are small, and factors and products over it are those of the
--- step's own table. Assumes nothing.
+-- step's own table.
 use Prim.Native.Nat.{ℕ, zero, suc, _+_, _-_, _≤_, _<_}
 use mathlib.Core.List.{List}
 use mathlib.Core.Logic.{⊎-elim}

@@ -1,4 +1,4 @@
--- The orders of a table filled one after another: what the sums of v and g close is the next order of the step. Assumes nothing.
+-- The orders of a table filled one after another: what the sums of v and g close is the next order of the step.
 use Prim.Native.Nat.{ℕ, zero, suc, _^_, _≤_, _<_}
 use mathlib.Core.List.{List}
 use mathlib.Core.Logic.{⊎-elim}

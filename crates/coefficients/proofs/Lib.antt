@@ -1,4 +1,5 @@
+-- A table of coefficients: one entry, one term more, one order more, all orders.
 mod Entries
-pub mod Filled
-pub mod Filling
 mod TermByTerm
+pub mod Filling
+pub mod Filled

@@ -1,4 +1,4 @@
--- One turn over the terms: what a term's share asks and is, and the sums of its target and of the others with it. Assumes nothing.
+-- One turn over the terms: what a term's share asks and is, and the sums of its target and of the others with it.
 use Prim.Native.Nat.{ℕ, suc, _+_, _-_, _^_, _≤_, _<_}
 use mathlib.Core.List.{List}
 use mathlib.Core.Logic.{_≢_}

@@ -1,5 +1,4 @@
 -- What the conversion prints, by what a stored sheet is read as and what its first part comes to; with places enough it is document 02's.
--- Assumes nothing.
 use Prim.Native.Nat.{ℕ, suc, _-_, _*_, _≤_, _<_}
 use mathlib.Core.Bool.{true, false}
 use mathlib.Core.List.{List, [], _++_}

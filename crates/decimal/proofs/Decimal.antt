@@ -1,4 +1,4 @@
--- A whole number in decimal: its sign, its last two digits, and how many there are. Assumes nothing.
+-- A whole number in decimal: its sign, its last two digits, and how many there are.
 use Prim.Native.Char.{code}
 use Prim.Native.Nat.{ℕ, zero, suc, _^_, _/_, _%_, _≤_, _<_}
 use mathlib.Core.Path.{_≡_, refl}

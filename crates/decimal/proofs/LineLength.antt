@@ -1,5 +1,4 @@
 -- A number's line: how long it is, and that the code, which hands over a number's bits, asks and puts what is the number's.
--- Assumes nothing.
 use Prim.Native.Nat.{ℕ, suc, _^_, _≤_, _<_}
 use Prim.Native.String.{String}
 use mathlib.Core.Path.{_≡_, ap}

@@ -1,4 +1,4 @@
--- Text that is put piece after piece: what nothing, one byte and two pieces come to. Assumes nothing.
+-- Text that is put piece after piece: what nothing, one byte and two pieces come to.
 use Prim.Native.Nat.{ℕ, suc, _+_, _≤_, _<_}
 use mathlib.Core.Path.{_≡_, refl, sym, ap, _∙_}
 use mathlib.Core.List.{List, [], _∷_, _++_, append-nil}

@@ -1,5 +1,5 @@
 -- Binomial numbers, and what they do to the common denominators M of the exact sums: C(k,l) · M_l · M_(k−l) = D · M_k, by Pascal's rule and
--- M_(k+1) = M_k · (k+1) · (D s w). Assumes nothing.
+-- M_(k+1) = M_k · (k+1) · (D s w).
 use Prim.Native.Nat.{ℕ, zero, suc, _+_, _-_, _*_, _≤_, _<_}
 use mathlib.Core.Path.{_≡_, refl, sym, ap, ap₂, _∙_}
 use native.Mathlib.Nat.{add-sub-of-le, one-mul, mul-assoc, mul-comm}

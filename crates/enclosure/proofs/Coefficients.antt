@@ -1,5 +1,5 @@
 -- The rounded coefficients enclose the exact summands of every order, for every quantity, and their sums the exact sum: s Y_k H^k ÷ M_k lies
--- within e_k of c_k. Assumes nothing.
+-- within e_k of c_k.
 use Prim.Native.Nat.{ℕ, zero, suc, _≤_, _<_}
 use mathlib.Core.List.{List}
 use mathlib.Core.Logic.{⊎-elim}

@@ -1,4 +1,4 @@
--- What a term brings to an exact order: its coefficient times a convolution of its factors, which does not mind their order. Assumes nothing.
+-- What a term brings to an exact order: its coefficient times a convolution of its factors, which does not mind their order.
 use Prim.Native.Nat.{ℕ, suc, _-_, _<_}
 use mathlib.Core.Path.{_≡_, sym, _∙_}
 use native.Mathlib.Omega.{arith}

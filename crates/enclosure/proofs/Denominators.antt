@@ -1,5 +1,5 @@
 -- The exact sum does not depend on the denominator that a state is given: states of the same numbers lead to the same numbers. With D and the
--- numerators multiplied by c, Y_k is multiplied by c^(k+1). Assumes nothing.
+-- numerators multiplied by c, Y_k is multiplied by c^(k+1).
 use Prim.Native.Nat.{ℕ, zero, suc, _+_, _-_, _*_, _^_, _≤_, _<_}
 use mathlib.Core.Path.{_≡_, sym, ap, ap₂, _∙_}
 use mathlib.Core.Bool.{Bool, true, false, cond}

@@ -1,5 +1,5 @@
 -- One step: the row encloses the exact sum of every degree no lower than its own, from every state within the balls it started from.
--- The coefficients enclose the sum of the row's degree, and the tail covers the rest. Assumes nothing.
+-- The coefficients enclose the sum of the row's degree, and the tail covers the rest.
 use Prim.Native.Nat.{ℕ, zero, suc, _+_, _*_, _^_, _≤_, _<_}
 use mathlib.Core.Bool.{true}
 use mathlib.Core.List.{List}

@@ -1,5 +1,5 @@
 -- The ends of a row's enclosures lie between its lows and highs: value less radius is no lower than the low, value and radius no higher than the high. So it
--- is of every row that a passage writes. Assumes nothing.
+-- is of every row that a passage writes.
 use Prim.Native.Nat.{ℕ, suc, _+_, _≤_, _<_}
 use mathlib.Core.Path.{_≡_}
 use mathlib.Core.List.{List}

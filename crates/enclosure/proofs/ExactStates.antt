@@ -1,5 +1,5 @@
 -- Exact states within radii of values: the values themselves are one, so that demand 3 speaks of something; and whether a state is one
--- depends on its numbers alone, not on their denominator. Assumes nothing.
+-- depends on its numbers alone, not on their denominator.
 use Prim.Native.Nat.{ℕ, _<_}
 use mathlib.Core.Path.{_≡_, sym, ap, _∙_}
 use mathlib.Core.List.{List, map}

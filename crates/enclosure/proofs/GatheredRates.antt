@@ -1,5 +1,5 @@
 -- The exact sums of the gathered terms are those of the terms as read, at every step h ÷ w: a term brings its coefficient times a convolution of
--- its factors, which like terms have in common. So demand 3 by the gathered terms is demand 3 by the terms as read. Assumes nothing.
+-- its factors, which like terms have in common. So demand 3 by the gathered terms is demand 3 by the terms as read.
 use Prim.Native.Nat.{ℕ, zero, suc}
 use mathlib.Core.Bool.{true, false, cond}
 use mathlib.Core.List.{List, [], _∷_, _++_}

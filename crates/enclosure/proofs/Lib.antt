@@ -1,21 +1,28 @@
+-- Why a step encloses every exact sum, in the order of the argument.
+-- the exact sum: its orders, that it is the paper's, and that only the numbers of a state matter
 pub mod Orders
 pub mod Binomial
 pub mod Convolution
 pub mod Paper
 pub mod Denominators
+pub mod ExactStates
+-- the majorant and the tail; the coefficients; one step
 pub mod Majorant
 pub mod Tail
-pub mod Coefficients
 pub mod NextCoefficient
-pub mod GatheredRates
+pub mod Coefficients
 pub mod Enclosed
-pub mod SpannedStep
-pub mod Spanned
-pub mod ExactStates
-pub mod RowBounds
+pub mod GatheredRates
+-- demand 3, and rows that are not trusted
 pub mod Trusted
 pub mod Distrust
+-- the water between the rows, and lows and highs that do not hold it
+pub mod SpannedStep
+pub mod Spanned
 pub mod DistrustBetween
+-- the range of a row's numbers
+pub mod RowBounds
 pub mod EndsBetween
 pub mod RowRange
+-- the claims of the rows in a lent buffer
 pub mod PromisedRows

@@ -1,5 +1,5 @@
 -- The majorant: the k-th summand of every quantity's exact sum is at most G·(q ÷ s)^k units, for every k.
--- Strong induction on k over all quantities at once. Assumes nothing.
+-- Strong induction on k over all quantities at once.
 use Prim.Native.Nat.{ℕ, zero, suc, _-_, _*_, _^_, _≤_, _<_}
 use mathlib.Core.Bool.{Bool, true, false, cond}
 use mathlib.Core.List.{List}

@@ -1,4 +1,4 @@
--- The table of the exact orders grows by a row at its end, as the table of coefficients does; and a row that is tolerable is tolerated. Assumes nothing.
+-- The table of the exact orders grows by a row at its end, as the table of coefficients does; and a row that is tolerable is tolerated.
 use Prim.Native.Nat.{ℕ, zero, suc, _≤_}
 use mathlib.Core.Bool.{true}
 use mathlib.Core.List.{List}

@@ -1,5 +1,5 @@
 -- The exact sum is the paper's (source 000, equation 27): with y_k = Y_k ÷ (k! D^(k+1) s^k), y_0 is the start and (k+1) y_(k+1) is the k-th
--- coefficient of the rates. Numbers are fractions here, and two are the same by cross-multiplication. Assumes nothing.
+-- coefficient of the rates. Numbers are fractions here, and two are the same by cross-multiplication.
 use Prim.Native.Nat.{ℕ, zero, suc, _-_, _*_, _^_, _≤_, _<_}
 use mathlib.Core.Path.{_≡_, sym, _∙_}
 use mathlib.Core.Bool.{Bool, true, false, cond}

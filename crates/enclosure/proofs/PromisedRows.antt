@@ -1,4 +1,4 @@
--- The promise of a passage, by the way that it ends; and demand 3, and the water between the rows, of the rows that stand in the buffer. Assumes nothing.
+-- The promise of a passage, by the way that it ends; and demand 3, and the water between the rows, of the rows that stand in the buffer.
 use Prim.Native.Nat.{ℕ, suc, _*_, _≤_, _<_}
 use mathlib.Core.Path.{_≡_, ap}
 use mathlib.Core.List.{List}

@@ -1,5 +1,5 @@
 -- The sharp bound on a row. The ratio is at most a half, so that |c_k| is at most G ÷ 2^k but for its radius, and a new value at most twice G but for its
--- own. It rests on the exact sum from the values themselves. Assumes nothing.
+-- own. It rests on the exact sum from the values themselves.
 use Prim.Native.Nat.{ℕ, zero, suc, _+_, _*_, _^_, _≤_, _<_}
 use mathlib.Core.Bool.{true}
 use mathlib.Core.List.{List}

@@ -1,5 +1,4 @@
 -- Every row that a passage writes keeps to a range: by questions 4 and 5 and the sharp bound its values, lows and highs, by question 6 its radii. `most` is 2^29.
--- Assumes nothing.
 use Prim.Native.Nat.{ℕ, _+_, _*_, _≤_, _<_}
 use mathlib.Core.Path.{_≡_, refl}
 use mathlib.Core.List.{List}

@@ -1,5 +1,5 @@
 -- The water between the rows, of every passage: each row's lows and highs hold every exact sum within its step, from every state within the radii that the
--- step started from. Assumes nothing.
+-- step started from.
 use Prim.Native.Nat.{ℕ, zero, suc, _*_, _≤_, _<_}
 use mathlib.Core.List.{List, [], _∷_}
 use mathlib.Core.Path.{_≡_, refl, ap}

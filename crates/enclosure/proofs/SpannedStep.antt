@@ -1,6 +1,6 @@
 -- Between the rows: the exact sum at a fraction u ÷ w of a step, from 0 to 1, of every degree no lower than the step's, lies within the step's reach of the
 -- value that the step started from, from every state within its starting radii. A summand of order k from 1 up is, at the fraction, no larger than
--- at the whole step, and so at most |c_k| + e_k. Assumes nothing.
+-- at the whole step, and so at most |c_k| + e_k.
 use Prim.Native.Nat.{ℕ, zero, suc, _+_, _*_, _^_, _≤_, _<_}
 use mathlib.Core.Bool.{true}
 use mathlib.Core.List.{List}

@@ -1,5 +1,5 @@
 -- The exact sum at a step of h ÷ w, by its summands: enclosures of the orders 0 .. d enclose the sum of degree d, and the tail covers all that the
--- orders after d add, whatever the degree. It rests on the majorant's bound of each order, and on `up` not being below. Assumes nothing.
+-- orders after d add, whatever the degree. It rests on the majorant's bound of each order, and on `up` not being below.
 use Prim.Native.Nat.{ℕ, zero, suc, _+_, _-_, _*_, _^_, _≤_, _<_}
 use mathlib.Core.List.{List}
 use mathlib.Core.Path.{_≡_, refl}

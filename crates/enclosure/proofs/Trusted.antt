@@ -1,6 +1,6 @@
 -- Demand 3 of a whole passage: its rows are trusted, whatever the sheet and however many places are lent.
 -- One induction over the rows, by the gathered terms, whose exact sums are those of the terms as read; each step taken had its questions answered
--- yes. The first of such rows are trusted too. Assumes nothing.
+-- yes. The first of such rows are trusted too.
 use Prim.Native.Nat.{ℕ, zero, suc, _≤_, _<_, max}
 use mathlib.Core.List.{List, [], _∷_}
 use mathlib.Core.Path.{_≡_, refl, ap, ap₂, _∙_}

@@ -4,7 +4,7 @@ use mathlib.Core.Bool.{Bool, true, false, _&&_}
 use mathlib.Core.List.{List, [], _++_}
 use mathlib.Core.Path.{_≡_}
 use lib.IntN.{ℤ, pos, negℤ, natAbs}
-use lib.ListN.{length, getD, take, replicate}
+use lib.ListN.{length, getD, replicate}
 use lib.Signed.{leZ}
 use Rattle.ranges.specs.Range.{tabulate}
 pub use Rattle.model.specs.declared.Limits.{Limits}
@@ -298,8 +298,3 @@ no-head = record { n = 0; steps = 0; step = pos 0; tail = 0; tol = 0 }
 -- the sheet of zeros, which a refused text is read as
 unfoldable pub no-sheet : Sheet
 no-sheet = record { head = no-head; quantities = quantitiesHeld []; terms = termsHeld 0 [] }
-
--- a sheet holds 0 past its counts
-pub record ZeroPastCounts (sheet : Sheet) : Type 0 where
-  pub quantities : sheet .quantities ≡ quantitiesHeld (take (sheet .head .n) (sheet .quantities))
-  pub terms : sheet .terms ≡ termsHeld (sheet .terms .count) (take (sheet .terms .count) (sheet .terms .list))

@@ -1,4 +1,4 @@
--- A row's balls and spans in arrays with 0 past its quantities: storing them leaves them so, and they are read from there as they were. Assumes nothing.
+-- A row's balls and spans in arrays with 0 past its quantities: storing them leaves them so, and they are read from there as they were.
 use Prim.Native.Nat.{ℕ, _≤_, _<_}
 use mathlib.Core.List.{List, map}
 use mathlib.Core.Path.{_≡_, _∙_}

@@ -1,4 +1,4 @@
--- How long a line is, and how large a number that is read from one. Assumes nothing.
+-- How long a line is, and how large a number that is read from one.
 use Prim.Native.Nat.{ℕ, zero, suc, _+_, _-_, _*_, _^_, _≤_, _<_}
 use mathlib.Core.Bool.{Bool, true, false}
 use mathlib.Core.List.{List, [], _∷_, _++_}

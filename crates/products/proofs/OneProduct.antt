@@ -1,4 +1,4 @@
--- One turn of a convolution: what is read at the two places, and the sums with one product more. Assumes nothing.
+-- One turn of a convolution: what is read at the two places, and the sums with one product more.
 use Prim.Native.Nat.{ℕ, zero, suc, _+_, _-_, _*_, _^_, _≤_, _<_}
 use mathlib.Core.List.{List}
 use mathlib.Core.Path.{_≡_, refl, ap, ap₂, _∙_}

@@ -1,4 +1,4 @@
--- A table of coefficients by its places: what stands at a place is the value, and the reach, of the factor there. Assumes nothing.
+-- A table of coefficients by its places: what stands at a place is the value, and the reach, of the factor there.
 use Prim.Native.Nat.{ℕ, zero, suc, _-_, _≤_, _<_}
 use mathlib.Core.List.{List, []}
 use mathlib.Core.Logic.{⊎-elim}

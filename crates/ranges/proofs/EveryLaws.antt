@@ -1,4 +1,4 @@
--- A test of each number below n, as a loop that stops at the first no forms it. Assumes nothing.
+-- A test of each number below n, as a loop that stops at the first no forms it.
 use Prim.Native.Nat.{ℕ, zero, suc, _+_, _<_}
 use mathlib.Core.Bool.{Bool, true, false, _&&_, and-false}
 use mathlib.Core.Path.{_≡_, refl, sym, ap, _∙_}

@@ -1,4 +1,4 @@
--- Fractions of whole numbers, the same where cross-multiplication says so: their sums and products over a denominator. Assumes nothing.
+-- Fractions of whole numbers, the same where cross-multiplication says so: their sums and products over a denominator.
 use Prim.Native.Nat.{ℕ, zero, suc, _*_, _<_}
 use mathlib.Core.Path.{_≡_, refl, sym, ap, ap₂, _∙_}
 use native.Mathlib.Nat.{mul-comm}

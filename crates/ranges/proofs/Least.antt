@@ -1,5 +1,5 @@
 -- The search for the first that passes, below n: what it comes to, and that nothing else is the first.
--- One induction says it all; each law reads it. Assumes nothing.
+-- One induction says it all; each law reads it.
 use Prim.Native.Nat.{ℕ, zero, suc, _≤_, _<_}
 use mathlib.Core.Bool.{Bool, true, false, false≢true}
 use mathlib.Core.Logic.{⊎-elim}

@@ -1,4 +1,4 @@
--- What each entry of a list has, and each two of them. Assumes nothing.
+-- What each entry of a list has, and each two of them.
 use Prim.Native.Nat.{ℕ, zero, suc, _<_}
 use mathlib.Core.List.{List, [], _∷_}
 use native.Mathlib.Omega.{arith}

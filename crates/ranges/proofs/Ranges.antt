@@ -1,5 +1,5 @@
 -- Laws of sums, of the largest and of lists over 0 .. n - 1: one more turn, equal or smaller summands, their order, a factor moved in, magnitudes,
--- enclosures, and the entries of a list by its numbers. Assumes nothing.
+-- enclosures, and the entries of a list by its numbers.
 use Prim.Native.Nat.{ℕ, zero, suc, _+_, _-_, _*_, _≤_, _<_}
 use mathlib.Core.List.{List, [], _∷_, _++_, map, map-append}
 use mathlib.Core.Path.{_≡_, refl, sym, ap, ap₂, _∙_, subst}

@@ -1,4 +1,4 @@
--- Stores one after the other: of an append, of one number more, and of one entry more into an array. Assumes nothing.
+-- Stores one after the other: of an append, of one number more, and of one entry more into an array.
 use Prim.Native.Nat.{ℕ, suc, _+_, _<_}
 use mathlib.Core.Path.{_≡_, sym, ap, _∙_}
 use mathlib.Core.List.{List, [], _∷_, _++_}

@@ -1,4 +1,4 @@
--- G and the largest size, as a loop over the arrays forms them. Assumes nothing.
+-- G and the largest size, as a loop over the arrays forms them.
 use Prim.Native.Nat.{ℕ, zero, suc, max, _<_}
 use mathlib.Core.List.{List}
 use mathlib.Core.Path.{_≡_, refl, ap, ap₂}

@@ -1,4 +1,4 @@
--- The ratio by the sums of |A| that were formed once for a passage is that of its terms. Assumes nothing.
+-- The ratio by the sums of |A| that were formed once for a passage is that of its terms.
 use Prim.Native.Nat.{ℕ, suc, _+_, _*_, _≤_, _<_}
 use mathlib.Core.List.{List}
 use mathlib.Core.Path.{_≡_, ap, _∙_}

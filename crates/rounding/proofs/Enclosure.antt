@@ -1,11 +1,12 @@
--- The calculus of enclosures: u ÷ m lies within e of c. Assumes nothing.
+-- The calculus of enclosures: u ÷ m lies within e of c.
 use Prim.Native.Nat.{ℕ, _+_, _*_, _≤_, _<_}
 use mathlib.Core.Path.{_≡_, sym, ap, ap₂, _∙_}
 use native.Mathlib.Nat.{le-refl, le-trans, mul-assoc, mul-left-comm, mul-le-mul-left, mul-le-mul-right, mul-le-mul, le-of-mul-le-mul-left, one-mul, add-mul}
 use native.Mathlib.Omega.{arith}
 use lib.IntN.{ℤ, pos, natAbs, negℤ, _+ℤ_, _-ℤ_, _*ℤ_, pos-*ℤ-pos, +ℤ-invr, +ℤ-negℤ-cancel}
 use lib.Signed.{_≤ℤ_}
-use Rattle.rounding.specs.Rounding.{up, near, distance}
+use Rattle.rounding.specs.Rounding.{up, near}
+use Rattle.rounding.specs.RoundingMeans.{distance}
 use Rattle.rounding.specs.Enclosure.{Within}
 use Rattle.rounding.proofs.Integers.{ringℤ, ringℕ, minus-plus, abs-mul, add-parts, neg-parts, abs-parts, pos-parts, parts-le, abs-add, through}
 use Rattle.rounding.proofs.Roundings.{up-not-below, near-is-near}

@@ -1,5 +1,4 @@
 -- Laws of ℤ that `lib.IntN` lacks: the ring, magnitudes, and linear facts by positive and negative parts.
--- Assumes nothing.
 use Prim.Native.Nat.{ℕ, zero, suc, _+_, _*_, _-_, _≤_, _<_}
 use mathlib.Core.Path.{_≡_, refl, sym, ap, _∙_}
 use mathlib.Core.Bool.{Bool, true, false, not, cond}

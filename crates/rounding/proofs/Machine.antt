@@ -1,4 +1,4 @@
--- Whole numbers in signed machine words: what fits, and what the bits stand for. Assumes nothing.
+-- Whole numbers in signed machine words: what fits, and what the bits stand for.
 use Prim.Native.Nat.{ℕ, zero, suc, _-_, _^_, _≤_, _<_}
 use mathlib.Core.Path.{_≡_, refl, ap, _∙_}
 use mathlib.Core.Bool.{Bool, true, false}

@@ -1,5 +1,4 @@
 -- What `up` and `near` are, for any divisor from 1 up: `IsUp` and `IsNear` hold of them, and of nothing else.
--- Assumes nothing.
 use Prim.Native.Nat.{ℕ, zero, suc, _+_, _*_, _-_, _/_, _≤_, _<_}
 use mathlib.Core.Path.{_≡_, refl, sym, ap, _∙_, subst}
 use native.Mathlib.Nat.{div-lt-iff-lt-mul, div-eq-of-lt-le, div-add-mod', mod-lt, le-antisymm, le-refl, le-trans, mul-le-mul-right, one-mul, le-mul-of-pos-right}
@@ -10,7 +9,8 @@ use mathlib.Core.Bool.{true}
 use borrow.Author.Tests.{ltb-true}
 use lib.Signed.{ltZ}
 use lib.IntN.{ℤ, pos, negsuc, negℤ, natAbs, _+ℤ_, _-ℤ_, _*ℤ_, ℤ-discrete, negℤ-negℤ}
-use Rattle.rounding.specs.Rounding.{up, near, nearℕ, IsUp, IsNear, distance}
+use Rattle.rounding.specs.Rounding.{up, near, nearℕ}
+use Rattle.rounding.specs.RoundingMeans.{IsUp, IsNear, distance}
 use Rattle.rounding.proofs.Integers.{ringℤ, ringℕ, abs-neg, abs-mul, abs-sub, abs-sub-le, sub-zero-same, difference}
 
 pub next-multiple : (k d : ℕ) → (k + 1) * d ≡ k * d + d

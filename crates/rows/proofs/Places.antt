@@ -1,4 +1,4 @@
--- The places of a row: where they end, what stands there once a row is stored, and what is read there. Assumes nothing.
+-- The places of a row: where they end, what stands there once a row is stored, and what is read there.
 use Prim.Native.Nat.{ℕ, suc, _+_, _≤_, _<_}
 use mathlib.Core.Path.{_≡_, ap}
 use mathlib.Core.List.{List, _∷_, _++_, flatten, append-nil}

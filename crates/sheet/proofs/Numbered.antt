@@ -1,4 +1,4 @@
--- A reading gives its refusal's number and no step. Assumes nothing.
+-- A reading gives its refusal's number and no step.
 use Prim.Native.Nat.{ℕ}
 use mathlib.Core.Path.{_≡_, refl, ap, _∙_}
 use mathlib.Core.List.{List}

@@ -1,4 +1,4 @@
--- How many digits the numbers of a sheet in range have, and how long its lines are. Assumes nothing.
+-- How many digits the numbers of a sheet in range have, and how long its lines are.
 use Prim.Native.Nat.{ℕ, _^_, _≤_, _<_}
 use mathlib.Core.Path.{_≡_, refl}
 use mathlib.Core.List.{_++_, flatten}

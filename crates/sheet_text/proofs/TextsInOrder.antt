@@ -1,4 +1,4 @@
--- Texts one after another, one more at a time. Assumes nothing.
+-- Texts one after another, one more at a time.
 use Prim.Native.Nat.{ℕ}
 use mathlib.Core.Path.{_≡_, sym, ap, _∙_}
 use mathlib.Core.List.{List, [], _∷_, _++_, flatten, append-nil, append-assoc}

@@ -1,4 +1,4 @@
--- What an accepted verdict gives the steps of a passage. Assumes nothing.
+-- What an accepted verdict gives the steps of a passage.
 use mathlib.Core.Path.{_≡_}
 use native.Mathlib.Omega.{arith}
 use Rattle.model.specs.Sheet.{scale, passes, sheetVerdict, verdictOutcome, listed, termsOf}

@@ -1,5 +1,5 @@
 -- The conversion of a stored sheet: a long one comes out as two sheets, whose passages are together the long one; where only a refusal is printed, it
--- is the long passage's own; any other text comes out as itself, or as the reader's refusal. Assumes nothing.
+-- is the long passage's own; any other text comes out as itself, or as the reader's refusal.
 use Prim.Native.Nat.{ℕ, suc, _+_, _-_, _≤_, _<_}
 use mathlib.Core.Logic.{inl, inr, ⊎-elim}
 use mathlib.Core.Path.{_≡_, refl, sym, ap, ap₂, _∙_}
@@ -9,7 +9,8 @@ use native.Mathlib.Omega.{arith}
 use borrow.Author.Tests.{le-leb, lt-leb}
 use lib.ListN.{length, getD, length-map}
 use lib.Seq.{take-at}
-use Rattle.model.specs.Sheet.{most, most-steps, stored-steps, refusedStep, passes, ask, inRange, steps-limits, start-limits, radius-limits, startVerdict, quantityVerdict, sheetVerdictTo, sheetVerdict, padded, quantitiesHeld, startsOf, ZeroPastCounts}
+use Rattle.model.specs.Sheet.{most, most-steps, stored-steps, refusedStep, passes, ask, inRange, steps-limits, start-limits, radius-limits, startVerdict, quantityVerdict, sheetVerdictTo, sheetVerdict, padded, quantitiesHeld, startsOf}
+use Rattle.laws.specs.ReadingMeans.{ZeroPastCounts}
 use Rattle.model.specs.Reading.{readSheetTo, readSheet}
 use Rattle.model.specs.Step.{no-ball, reach}
 use Rattle.model.specs.declared.Ball.{Ball}

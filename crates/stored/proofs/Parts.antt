@@ -1,5 +1,5 @@
 -- A passage in two parts, whatever their counts: its rows are those of the first steps and then those of the steps that are left, from the values and
--- radii of the last row; where one of the first steps is refused, so is the passage. Assumes nothing.
+-- radii of the last row; where one of the first steps is refused, so is the passage.
 use Prim.Native.Nat.{ℕ, zero, suc, _+_, _-_, _≤_, _<_}
 use mathlib.Core.Path.{_≡_, refl, sym, ap, _∙_}
 use mathlib.Core.Bool.{false}

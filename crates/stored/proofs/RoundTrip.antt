@@ -1,5 +1,4 @@
 -- A sheet's text is read back as the sheet: a number by its digits, a line, the fields one after another, and few enough bytes in all.
--- Assumes nothing.
 use Prim.Native.Nat.{ℕ, zero, suc, _+_, _-_, _*_, _^_, _≤_, _<_}
 use Prim.Native.Char.{code}
 use Prim.Native.String.{String}
@@ -14,7 +13,8 @@ use lib.IntN.{ℤ, pos, negsuc, natAbs}
 use lib.ListN.{length, getD, take, length-append, length-replicate, replicate}
 use lib.Seq.{length-take-le, getD-take}
 use Rattle.ranges.specs.Range.{bytes, tabulate}
-use Rattle.model.specs.Sheet.{most, scale, most-bytes, most-digits, most-quantities, most-terms, most-coef, Verdict, passes, inRange, stepVerdict, startVerdict, quantityVerdict, sheetVerdictTo, no-quantity, no-term, padded, quantitiesHeld, termsHeld, ZeroPastCounts, n-limits, steps-limits, tail-limits, tol-limits, start-limits, radius-limits, terms-limits, to-limits, coef-limits, first-limits, second-limits}
+use Rattle.model.specs.Sheet.{most, scale, most-bytes, most-digits, most-quantities, most-terms, most-coef, Verdict, passes, inRange, stepVerdict, startVerdict, quantityVerdict, sheetVerdictTo, no-quantity, no-term, padded, quantitiesHeld, termsHeld, n-limits, steps-limits, tail-limits, tol-limits, start-limits, radius-limits, terms-limits, to-limits, coef-limits, first-limits, second-limits}
+use Rattle.laws.specs.ReadingMeans.{ZeroPastCounts}
 use Rattle.model.specs.declared.Limits.{Limits}
 use Rattle.model.specs.Reading.{Spelled, spelled, isDigit, digits, natural, negated, signed, after, ended, line, Parsed, parsed, fault, Parser, return, _>>=_, times, field, signedField, end, body, accepted, readSheetTo}
 use Rattle.model.specs.Reading as reading

@@ -1,4 +1,4 @@
--- What the code answers to a step is what the definition of the step says, question by question. Assumes nothing.
+-- What the code answers to a step is what the definition of the step says, question by question.
 use Prim.Native.Nat.{ℕ, zero, suc, _≤_, _<_}
 use mathlib.Core.Bool.{Bool, true, false, _&&_}
 use mathlib.Core.List.{List}

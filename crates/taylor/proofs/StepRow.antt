@@ -1,4 +1,4 @@
--- The row that the table of a step comes to is the definition's. Assumes nothing.
+-- The row that the table of a step comes to is the definition's.
 use Prim.Native.Nat.{ℕ, suc, _+_, _≤_, _<_}
 use mathlib.Core.List.{List}
 use mathlib.Core.Path.{_≡_, ap, ap₂, _∙_}

@@ -1,4 +1,4 @@
--- The table of powers of ten: by its rule entry k is 10^k, and one test over the whole table shows the rule. Assumes nothing.
+-- The table of powers of ten: by its rule entry k is 10^k, and one test over the whole table shows the rule.
 use Prim.Native.Nat.{ℕ, zero, suc, _*_, _^_, _<_}
 use mathlib.Core.Bool.{Bool, true, false, _&&_}
 use mathlib.Core.List.{List, [], _∷_}

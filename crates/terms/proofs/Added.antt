@@ -1,4 +1,4 @@
--- Like terms summed one after the other: each is added to the first that it is like, or else stands behind them all. Assumes nothing.
+-- Like terms summed one after the other: each is added to the first that it is like, or else stands behind them all.
 use Prim.Native.Nat.{ℕ, zero, suc, _<_}
 use mathlib.Core.Bool.{Bool, true, false, not, cond}
 use mathlib.Core.List.{List, [], _∷_, _++_}

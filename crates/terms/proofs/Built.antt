@@ -1,4 +1,4 @@
--- A list of terms that is built in an array: one more behind it, and one of it replaced. Assumes nothing.
+-- A list of terms that is built in an array: one more behind it, and one of it replaced.
 use Prim.Native.Nat.{ℕ, suc, _+_, _≤_, _<_}
 use mathlib.Core.List.{List, [], _∷_, _++_}
 use mathlib.Core.Path.{_≡_, refl, sym, ap, _∙_}

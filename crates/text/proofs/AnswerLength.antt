@@ -1,4 +1,4 @@
--- How long an answer can be, line by line. Assumes nothing.
+-- How long an answer can be, line by line.
 use Prim.Native.Nat.{ℕ, suc, _+_, _*_, _^_, _≤_, _<_}
 use mathlib.Core.Path.{_≡_, refl, ap}
 use mathlib.Core.List.{List, [], _∷_, _++_, append-nil}

@@ -1,4 +1,4 @@
--- The text of quantities and of rows, one more at a time. Assumes nothing.
+-- The text of quantities and of rows, one more at a time.
 use Prim.Native.Nat.{ℕ, suc, _+_}
 use mathlib.Core.Path.{_≡_, sym, ap, _∙_}
 use mathlib.Core.List.{List, [], _∷_, _++_, append-assoc, append-nil}

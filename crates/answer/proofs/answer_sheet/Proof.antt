@@ -1,5 +1,4 @@
 -- `answer::answer_sheet` meets its contract. Its rows have places enough for every sheet, so the answer is document 01's.
--- Assumes nothing.
 use Prim.Native.Nat.{ℕ, _*_}
 use mathlib.Core.List.{List}
 use mathlib.Core.Path.{refl, subst}

@@ -1,4 +1,4 @@
--- `answer::front` meets its contract. Assumes nothing.
+-- `answer::front` meets its contract.
 use mathlib.Core.Path.{sym}
 use native.Mathlib.Omega.{arith}
 use lib.Seq.{take-all, length-take-le}

@@ -1,4 +1,4 @@
--- `answer::planner_answer` meets its contract. Assumes nothing.
+-- `answer::planner_answer` meets its contract.
 use mathlib.Core.List.{List}
 use mathlib.Core.Path.{subst}
 use Prim.Native.Nat.{ℕ}

@@ -1,4 +1,4 @@
--- `answer::planner_run` meets its contract. Assumes nothing.
+-- `answer::planner_run` meets its contract.
 use mathlib.Core.Path.{ap, _∙_}
 use Rattle.answer.specs.Answered.{summaryOf}
 use Rattle.answer.proofs.Answered.{ran-trusted, ran-spanned}

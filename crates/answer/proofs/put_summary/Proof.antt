@@ -1,4 +1,4 @@
--- `answer::put_summary` meets its contract: four stores make a list of four. Assumes nothing.
+-- `answer::put_summary` meets its contract: four stores make a list of four.
 use Prim.Native.Nat.{ℕ}
 use mathlib.Core.List.{List, [], _∷_}
 use mathlib.Core.Path.{_≡_, refl, _∙_}

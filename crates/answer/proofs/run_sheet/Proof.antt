@@ -1,5 +1,4 @@
 -- `answer::run_sheet` meets its contract. A refused sheet has no rows; a passage's stand in the buffer.
--- Assumes nothing.
 use Rattle.answer.proofs.Answered.{ran-refused, ran-accepted}
 use borrow.Author.Needs.{needs}
 use Rattle.answer.proofs.run_sheet.Statement.{statement}

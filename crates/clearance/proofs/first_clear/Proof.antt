@@ -1,5 +1,4 @@
 -- `clearance::first_clear` meets its contract: each answer is that of its question, the first no decides, and after the last the search does.
--- Assumes nothing.
 use Prim.Native.Nat.{_*_, _≤_}
 use mathlib.Core.Bool.{true}
 use mathlib.Core.Path.{_≡_, sym, _∙_}

@@ -1,4 +1,4 @@
--- `clearance::found_number` meets its contract, case by case. Assumes nothing.
+-- `clearance::found_number` meets its contract, case by case.
 use Prim.Native.Nat.{ℕ, _^_, _≤_, _<_}
 use mathlib.Core.Path.{_≡_, sym, ap, _∙_}
 use native.Mathlib.Omega.{arith}

@@ -1,4 +1,4 @@
--- `clearance::planner_first_clear` meets its contract: the number of the answer to the query as it is lent. Assumes nothing.
+-- `clearance::planner_first_clear` meets its contract: the number of the answer to the query as it is lent.
 use Prim.Native.Nat.{ℕ}
 use mathlib.Core.List.{List}
 use mathlib.Core.Path.{_≡_, ap, ap₂, _∙_}

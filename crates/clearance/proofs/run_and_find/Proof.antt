@@ -1,4 +1,4 @@
--- `clearance::run_and_find` meets its contract: what the passage promises, and what is found in the rows that it wrote. Assumes nothing.
+-- `clearance::run_and_find` meets its contract: what the passage promises, and what is found in the rows that it wrote.
 use Prim.Native.Nat.{ℕ}
 use mathlib.Core.List.{List}
 use mathlib.Core.Path.{_≡_}

@@ -1,5 +1,4 @@
 -- `coefficients::add_share` meets its contract. One element of each array is written.
--- Assumes nothing.
 use Prim.Native.Nat.{_^_, _<_}
 use mathlib.Core.Path.{_≡_, refl, ap, _∙_}
 use native.Mathlib.Omega.{arith}

@@ -1,5 +1,4 @@
 -- `coefficients::close_coefficient` meets its contract. What it writes is c and |c| + e of the entry of order k + 1.
--- Assumes nothing.
 use Prim.Native.Nat.{ℕ, suc, _+_, _*_, _^_, _<_}
 use mathlib.Core.List.{List}
 use mathlib.Core.Path.{_≡_, sym, ap, _∙_}

@@ -1,5 +1,4 @@
 -- `coefficients::close_order` meets its contract. The loop's invariant: the order is closed for the quantities passed.
--- Assumes nothing.
 use Prim.Native.Nat.{ℕ, suc, _+_, _-_, _≤_, _<_}
 use mathlib.Core.List.{List}
 use mathlib.Core.Logic.{⊎-elim}

@@ -1,5 +1,5 @@
 -- `coefficients::fill_orders` meets its contract. The outer loop's invariant: the orders passed are filled, and order 0 stays; the
--- inner one's: the sums are those over the terms passed. Assumes nothing.
+-- inner one's: the sums are those over the terms passed.
 use Prim.Native.Nat.{ℕ, _-_, _≤_, _<_}
 use mathlib.Core.List.{List}
 use mathlib.Core.Path.{_≡_, refl, sym, _∙_}

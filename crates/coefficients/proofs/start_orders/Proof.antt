@@ -1,5 +1,4 @@
 -- `coefficients::start_orders` meets its contract. The loop's invariant: the quantities passed have their balls at order 0.
--- Assumes nothing.
 use Prim.Native.Nat.{ℕ, _+_, _-_, _*_, _≤_, _<_}
 use mathlib.Core.List.{List}
 use mathlib.Core.Logic.{⊎-elim}

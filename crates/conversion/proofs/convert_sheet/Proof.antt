@@ -1,5 +1,4 @@
 -- `conversion::convert_sheet` meets its contract. Its rows have places enough for every sheet, so the conversion is document 02's.
--- Assumes nothing.
 use Prim.Native.Nat.{ℕ, _*_}
 use mathlib.Core.List.{List}
 use mathlib.Core.Path.{refl, subst}

@@ -1,4 +1,4 @@
--- `conversion::planner_convert` meets its contract: a refused sheet, a short one, and one of more steps. Assumes nothing.
+-- `conversion::planner_convert` meets its contract: a refused sheet, a short one, and one of more steps.
 use native.Mathlib.Omega.{arith}
 use lib.ListN.{length}
 use borrow.Author.Needs.{needs}

@@ -1,4 +1,4 @@
--- `conversion::put_parts` meets its contract: by question 4 the two sheets, or refusal 6. Assumes nothing.
+-- `conversion::put_parts` meets its contract: by question 4 the two sheets, or refusal 6.
 use Prim.Native.Nat.{suc, _+_, _≤_}
 use mathlib.Core.Bool.{true, false}
 use mathlib.Core.List.{List, _++_}

@@ -1,4 +1,4 @@
--- `conversion::split` meets its contract: the first part's refusal, or the two parts by its last row. Assumes nothing.
+-- `conversion::split` meets its contract: the first part's refusal, or the two parts by its last row.
 use native.Mathlib.Omega.{arith}
 use borrow.Author.Needs.{needs}
 use Rattle.model.specs.Sheet.{stored-steps}

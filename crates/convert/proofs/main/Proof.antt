@@ -1,4 +1,4 @@
--- `convert::main` meets its contract. Assumes nothing.
+-- `convert::main` meets its contract.
 use mathlib.Core.Path.{sym}
 use lib.Seq.{length-take-le}
 use borrow.Author.Needs.{needs}

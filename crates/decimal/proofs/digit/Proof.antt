@@ -1,4 +1,4 @@
--- `decimal::digit` meets its contract. Assumes nothing.
+-- `decimal::digit` meets its contract.
 use mathlib.Core.Path.{refl}
 use borrow.Author.Needs.{needs}
 use Rattle.model.specs.Answer.{digit}

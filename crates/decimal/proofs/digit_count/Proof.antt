@@ -1,4 +1,4 @@
--- `decimal::digit_count` meets its contract. After each turn the number is known to have so many digits. Assumes nothing.
+-- `decimal::digit_count` meets its contract. After each turn the number is known to have so many digits.
 use Prim.Native.Nat.{_-_, _≤_, _<_}
 use native.Mathlib.Omega.{arith}
 use borrow.Author.Tests.{leb-true, leb-false}

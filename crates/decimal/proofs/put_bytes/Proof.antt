@@ -1,5 +1,4 @@
 -- `decimal::put_bytes` meets its contract. After i turns the first i bytes are put.
--- Assumes nothing.
 use Prim.Native.Nat.{_-_, _≤_}
 use native.Mathlib.Numerals.{add-one}
 use native.Mathlib.Omega.{arith}

@@ -1,4 +1,4 @@
--- `decimal::put_front` meets its contract: all of the bytes, the front that fits, or none. Assumes nothing.
+-- `decimal::put_front` meets its contract: all of the bytes, the front that fits, or none.
 use Prim.Native.Nat.{_-_}
 use mathlib.Core.Path.{sym}
 use native.Mathlib.Omega.{arith}

@@ -1,5 +1,4 @@
 -- `decimal::put_line` meets its contract: the key, the sign, the digits and the line feed, piece after piece.
--- Assumes nothing.
 use Prim.Native.Nat.{ℕ}
 use mathlib.Core.Path.{_≡_, sym, ap}
 use mathlib.Core.List.{List, _++_, append-assoc}

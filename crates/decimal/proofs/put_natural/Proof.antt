@@ -1,4 +1,4 @@
--- `decimal::put_natural` meets its contract. Assumes nothing.
+-- `decimal::put_natural` meets its contract.
 use Prim.Native.Nat.{ℕ, _+_, _-_, _^_, _/_, _%_, _≤_, _<_}
 use mathlib.Core.Path.{_≡_, sym, ap, _∙_}
 use mathlib.Core.List.{List, [], _∷_, _++_, append-nil, append-assoc}

@@ -1,4 +1,4 @@
--- `decimal::put_pair` meets its contract: one digit, and then the other. Assumes nothing.
+-- `decimal::put_pair` meets its contract: one digit, and then the other.
 use Prim.Native.Nat.{ℕ, _^_, _/_, _%_}
 use mathlib.Core.Path.{_≡_}
 use mathlib.Core.List.{List, [], _∷_}

@@ -1,4 +1,4 @@
--- `decimal::put_sign` meets its contract: a minus, or nothing. Assumes nothing.
+-- `decimal::put_sign` meets its contract: a minus, or nothing.
 use mathlib.Core.Path.{sym}
 use borrow.Author.Needs.{needs}
 use Rattle.rounding.proofs.Machine.{sign-test}

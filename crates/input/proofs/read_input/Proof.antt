@@ -1,4 +1,4 @@
--- `input::read_input` meets its contract: it ends, and reads no further than the buffer. Assumes nothing.
+-- `input::read_input` meets its contract: it ends, and reads no further than the buffer.
 use Prim.Native.Nat.{_-_, _≤_}
 use mathlib.Core.Path.{_≡_}
 use lib.ListN.{length}

@@ -1,4 +1,4 @@
--- The terms that a record holds, by their places: how many, each, and a sum over them. Assumes nothing.
+-- The terms that a record holds, by their places: how many, each, and a sum over them.
 use Prim.Native.Nat.{ℕ, _≤_, _<_}
 use mathlib.Core.Path.{_≡_, ap}
 use lib.ListN.{length, getD}

@@ -1,5 +1,5 @@
 -- The invariant of a step, |c_k| + e_k ≤ G for every order k and every quantity, and after order 0 twice that is at most G + 2727. It rests on
--- the ratio's being at most a half. Assumes nothing.
+-- the ratio's being at most a half.
 use Prim.Native.Nat.{ℕ, zero, suc, _+_, _*_, _≤_, _<_}
 use mathlib.Core.List.{List}
 use mathlib.Core.Logic.{⊎-elim}

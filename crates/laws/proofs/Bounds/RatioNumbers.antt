@@ -1,4 +1,4 @@
--- No number on the way to the ratio leaves 64 bits, whatever the ratio comes to: question 5 is not yet answered there. Assumes nothing.
+-- No number on the way to the ratio leaves 64 bits, whatever the ratio comes to: question 5 is not yet answered there.
 use Prim.Native.Nat.{ℕ, _+_, _*_, _^_, _≤_}
 use mathlib.Core.Bool.{Bool, true, false, cond}
 use mathlib.Core.List.{List}

@@ -1,11 +1,12 @@
 -- How far a ball reaches, |value| + radius, through a rounding, a factor, a product and a sum. Of `near` only that twice its distance is
--- at most the divisor is used. Assumes nothing.
+-- at most the divisor is used.
 use Prim.Native.Nat.{ℕ, zero, suc, _+_, _*_, _-_, _≤_, _<_}
 use mathlib.Core.Path.{_≡_, ap, _∙_}
 use native.Mathlib.Nat.{le-trans, mul-le-mul-left, div-mul-le-self}
 use native.Mathlib.Omega.{arith}
 use lib.IntN.{ℤ, pos, natAbs, _-ℤ_, _*ℤ_}
-use Rattle.rounding.specs.Rounding.{near, up, distance}
+use Rattle.rounding.specs.Rounding.{near, up}
+use Rattle.rounding.specs.RoundingMeans.{distance}
 use Rattle.rounding.proofs.Integers.{minus-plus, abs-mul, abs-add, abs-sub-comm}
 use Rattle.rounding.proofs.Roundings.{near-is-near}
 use Rattle.ranges.specs.Range.{sum, sumℤ}

@@ -1,5 +1,5 @@
 -- How far the working balls of a term reach at order k, where each factor of the orders 0 .. k reaches G at most: S and F, Q and f, v and g.
--- The terms of a target together are bounded by what they weigh. Assumes nothing.
+-- The terms of a target together are bounded by what they weigh.
 use Prim.Native.Nat.{ℕ, zero, suc, _+_, _*_, _-_, _≤_}
 use mathlib.Core.Bool.{Bool, true, false, cond}
 use mathlib.Core.Path.{_≡_, refl}

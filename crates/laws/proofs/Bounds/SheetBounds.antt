@@ -1,5 +1,4 @@
 -- A sheet whose verdict passes, and a step whose questions 4 and 5 are answered yes, give what the bounds on the working numbers rest on.
--- Assumes nothing.
 use Prim.Native.Nat.{ℕ, zero, suc, _≤_, _<_}
 use mathlib.Core.Bool.{true}
 use mathlib.Core.List.{List}

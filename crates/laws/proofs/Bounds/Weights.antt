@@ -1,5 +1,5 @@
 -- What a term weighs: |A| times the scales of its factors, s for an absent one and G for one that is there. The ratio bounds what the terms
--- of one target weigh together. Of `up` only that it is not below is used. Assumes nothing.
+-- of one target weigh together. Of `up` only that it is not below is used.
 use Prim.Native.Nat.{ℕ, zero, suc, _+_, _*_, _≤_, _<_}
 use mathlib.Core.Bool.{Bool, true, false, cond}
 use mathlib.Core.List.{List}

@@ -1,5 +1,5 @@
 -- No working number of a step leaves 64 bits: each product, each sum as far as it is summed up, each number that is rounded. A bound on a
--- reach is one on the value and on the radius. Assumes nothing.
+-- reach is one on the value and on the radius.
 use Prim.Native.Nat.{ℕ, zero, suc, _+_, _*_, _-_, _^_, _≤_, _<_}
 use mathlib.Core.List.{List}
 use mathlib.Core.Path.{_≡_, refl}

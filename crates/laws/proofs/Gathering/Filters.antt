@@ -1,4 +1,4 @@
--- The terms of a list that pass a test: one induction, and what each of them has, and each two. Assumes nothing.
+-- The terms of a list that pass a test: one induction, and what each of them has, and each two.
 use Prim.Native.Nat.{_≤_}
 use mathlib.Core.Bool.{Bool, true, false, cond}
 use mathlib.Core.List.{List, [], _∷_, _++_}

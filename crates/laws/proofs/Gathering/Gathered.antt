@@ -1,6 +1,6 @@
 -- What 'like terms are added, in the place of the earliest; a sum of 0 drops out' says of the gathered terms, by the terms as read: they are
 -- pairwise unlike, none is 0, each coefficient is the sum of those that are like it, and no such sum is lost; they stand in the order of the
--- earliest, each with its factors in that one's order. Assumes nothing.
+-- earliest, each with its factors in that one's order.
 use Prim.Native.Nat.{ℕ, suc, _<_}
 use mathlib.Core.Bool.{Bool, true, false, not, cond}
 use mathlib.Core.List.{List, [], _∷_}

@@ -1,4 +1,4 @@
--- What the words say of the gathered terms, as one record, and that no other list has it. Assumes nothing.
+-- What the words say of the gathered terms, as one record, and that no other list has it.
 use Prim.Native.Nat.{ℕ, _≤_, _<_}
 use mathlib.Core.Bool.{Bool, true, false, cond}
 use mathlib.Core.List.{List, [], _∷_}

@@ -1,5 +1,5 @@
 -- The gathered terms of terms in bounds are in bounds: there are no more of them, the sum of |A| is no larger, and each has the target and the
--- factors of one as read. A coefficient that passes the sheet's range is still bounded by the total. Assumes nothing.
+-- factors of one as read. A coefficient that passes the sheet's range is still bounded by the total.
 use Prim.Native.Nat.{ℕ, zero, suc, _+_, _≤_, _<_}
 use mathlib.Core.Bool.{Bool}
 use mathlib.Core.Logic.{_⊎_, inl, inr}

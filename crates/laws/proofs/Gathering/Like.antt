@@ -1,4 +1,4 @@
--- Like terms: what the test says, and that it is an equivalence. It does not look at the coefficients. Assumes nothing.
+-- Like terms: what the test says, and that it is an equivalence. It does not look at the coefficients.
 use mathlib.Core.Bool.{Bool, true, false, _&&_, _||_, and-comm, or-comm, or-true}
 use mathlib.Core.Path.{_≡_, refl, sym, ap₂, _∙_}
 use lib.Dec.{eqb}

@@ -1,5 +1,5 @@
 -- Going back is going forward along the opposite rates: with the step and every coefficient of the other sign, a sheet has the same passage, row
--- by row and refusal by refusal. Assumes nothing.
+-- by row and refusal by refusal.
 use Prim.Native.Nat.{ℕ, zero, suc, _+_, _*_}
 use mathlib.Core.Bool.{Bool, true, false, not, cond, _&&_}
 use mathlib.Core.List.{List, [], _∷_, _++_, map}

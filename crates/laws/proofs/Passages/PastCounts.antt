@@ -1,4 +1,4 @@
--- A passage never reads past its counts: two sheets that are the same up to these have the same passage, whatever stands behind. Assumes nothing.
+-- A passage never reads past its counts: two sheets that are the same up to these have the same passage, whatever stands behind.
 use Prim.Native.Nat.{ℕ, _<_}
 use mathlib.Core.Path.{_≡_, refl, sym, ap, _∙_}
 use lib.ListN.{getD, take}

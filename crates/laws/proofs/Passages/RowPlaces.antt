@@ -1,5 +1,5 @@
 -- Rows in a lent buffer: the places that they take, that they can be read back from there, and that every other place is unchanged. One law says
--- where quantity i of part p stands. Assumes nothing.
+-- where quantity i of part p stands.
 use Prim.Native.Nat.{ℕ, zero, suc, _+_, _-_, _*_, _≤_, _<_}
 use mathlib.Core.Path.{_≡_, refl, sym, ap, _∙_}
 use mathlib.Core.List.{List, [], _∷_, _++_, flatten, append-assoc, append-nil}

@@ -1,4 +1,4 @@
--- A passage's rows: one induction for what each of them has, as the sheet's n quantities, and one for how many there are. Assumes nothing.
+-- A passage's rows: one induction for what each of them has, as the sheet's n quantities, and one for how many there are.
 use Prim.Native.Nat.{ℕ, zero, suc, _+_, _≤_, _<_}
 use mathlib.Core.Path.{_≡_, refl, ap, _∙_}
 use mathlib.Core.Bool.{Bool, true, false}

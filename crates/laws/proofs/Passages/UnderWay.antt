@@ -1,4 +1,4 @@
--- A passage under way: the rows done stand in the lent buffer, and what is left follows from the balls reached. Assumes nothing.
+-- A passage under way: the rows done stand in the lent buffer, and what is left follows from the balls reached.
 use Prim.Native.Nat.{ℕ, suc, _+_, _-_, _*_, _≤_, _<_}
 use mathlib.Core.Path.{_≡_, refl, sym, ap, _∙_}
 use mathlib.Core.List.{List, [], _∷_, _++_, append-assoc, append-nil}

@@ -1,5 +1,5 @@
 -- The degree is the least k whose tail is within the limit, and it never passes 28: a ratio of at most a half brings the majorant of order 29
--- down to 1. Assumes nothing.
+-- down to 1.
 use Prim.Native.Nat.{ℕ, zero, suc, _+_, _*_, _-_, _^_, _≤_, _<_}
 use native.Mathlib.Nat.{le-refl, le-trans, mul-le-mul-left, two-pow-succ}
 use native.Mathlib.Omega.{arith}

@@ -1,5 +1,5 @@
 -- A step back beside the step forward of the same length, from the same values and radii: both have the same ratio, degree, tail and new radii,
--- and are refused alike. Assumes nothing.
+-- and are refused alike.
 use Prim.Native.Nat.{ℕ, suc, _+_}
 use mathlib.Core.Bool.{Bool, true, false}
 use mathlib.Core.List.{List, map}

@@ -1,5 +1,5 @@
 -- Document 01's case F in general: without terms, or where all cancel, a step has degree 0 and leaves the values and radii as they are, and
--- its lows and highs are the values less and plus the radii. Assumes nothing.
+-- its lows and highs are the values less and plus the radii.
 use Prim.Native.Nat.{ℕ, zero, suc, _+_, _≤_, _<_}
 use mathlib.Core.Path.{_≡_, refl, ap, _∙_}
 use mathlib.Core.Bool.{Bool, true}

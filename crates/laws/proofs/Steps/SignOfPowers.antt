@@ -1,5 +1,5 @@
 -- The coefficients of a step back beside those of the step forward of the same length, from the same values and radii: order k is the same, times
--- (-1)^k, with the same radius. Assumes nothing.
+-- (-1)^k, with the same radius.
 use Prim.Native.Nat.{ℕ, zero, suc, _+_, _-_, _*_, _≤_, _<_}
 use mathlib.Core.Bool.{Bool, true, false, cond}
 use mathlib.Core.List.{List}

@@ -1,5 +1,5 @@
 -- A step that was taken: questions 4 to 6 were answered yes, and its row is the rule's, with a ball and a span for each that it started from and a degree
--- of at most 28. Assumes nothing.
+-- of at most 28.
 use Prim.Native.Nat.{ℕ, _≤_}
 use mathlib.Core.Bool.{Bool, true, false}
 use mathlib.Core.List.{List}

@@ -1,5 +1,5 @@
 -- The tables of coefficients and of orders grow by a row at their end: an entry keeps its place, the first row is the start, a later one is
--- what the table before it gives, and past the quantities an entry is nothing. Assumes nothing.
+-- what the table before it gives, and past the quantities an entry is nothing.
 use Prim.Native.Nat.{ℕ, zero, suc, _≤_, _<_}
 use mathlib.Core.List.{List, [], _∷_, _++_}
 use mathlib.Core.Path.{_≡_, refl, sym, ap, _∙_}

@@ -1,5 +1,5 @@
 -- A number's decimal text: the fuel of its definition does not decide it, it spells the number, without a leading zero, and how long it
--- is at most. Assumes nothing.
+-- is at most.
 use Prim.Native.Nat.{ℕ, zero, suc, _+_, _-_, _*_, _^_, _/_, _%_, _≤_, _<_}
 use Prim.Native.Char.{code}
 use Prim.Native.String.{String}

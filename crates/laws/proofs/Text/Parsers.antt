@@ -1,5 +1,5 @@
 -- What a parser yields, whatever the bytes: a result with a property, or one of the first four refusals. Laws for each way that the parsers
--- of a sheet are put together, and for one line. Assumes nothing.
+-- of a sheet are put together, and for one line.
 use Prim.Native.String.{String}
 use Prim.Native.Nat.{ℕ, zero, suc, _+_, _≤_, _<_}
 use mathlib.Core.Path.{_≡_, refl, ap, _∙_}

@@ -1,5 +1,5 @@
 -- What reading gives: an accepted sheet is in range in every field and holds 0 past its counts; a refused one is the sheet of zeros, with
--- one of the first four refusals and no step. Assumes nothing.
+-- one of the first four refusals and no step.
 use Prim.Native.Nat.{ℕ, zero, suc, _-_, _≤_, _<_}
 use mathlib.Core.Path.{_≡_, refl, sym, ap, _∙_}
 use mathlib.Core.Bool.{Bool, true, false}
@@ -15,7 +15,8 @@ use lib.ListN.{length, getD, take, replicate, length-append, length-replicate, L
 use borrow.Author.Tests.{lt-leb, eq-eqb}
 use Rattle.ranges.specs.Range.{bytes}
 use Rattle.model.specs.Reading.{Parsed, parsed, fault, return, _>>=_, signedField, start, quantity, term, head, quantities, terms, body, sheet, accepted, readSheetTo, after}
-use Rattle.model.specs.Sheet.{most-bytes, most-quantities, most-steps, most-terms, number, Verdict, passes, _then_, inOrder, headVerdict, quantityVerdict, quantitiesVerdict, startVerdict, termVerdict, termsVerdict, sheetVerdictTo, sheetVerdict, no-quantity, no-term, no-sheet, padded, quantitiesHeld, termsHeld, ZeroPastCounts, n-limits, steps-limits, tail-limits, tol-limits, start-limits, radius-limits, terms-limits, to-limits, coef-limits, first-limits, second-limits, from_to_}
+use Rattle.model.specs.Sheet.{most-bytes, most-quantities, most-steps, most-terms, number, Verdict, passes, _then_, inOrder, headVerdict, quantityVerdict, quantitiesVerdict, startVerdict, termVerdict, termsVerdict, sheetVerdictTo, sheetVerdict, no-quantity, no-term, no-sheet, padded, quantitiesHeld, termsHeld, n-limits, steps-limits, tail-limits, tol-limits, start-limits, radius-limits, terms-limits, to-limits, coef-limits, first-limits, second-limits, from_to_}
+use Rattle.laws.specs.ReadingMeans.{ZeroPastCounts}
 use Rattle.model.specs.declared.Refusal.{Refusal}
 use Rattle.model.specs.declared.Refusal.the-variants.{Oversized, NoReading}
 use Rattle.model.specs.declared.Start.{Start}

@@ -1,5 +1,4 @@
 -- What a verdict that passes says: every question in it passes, and every number asked about lies in its range.
--- Assumes nothing.
 use Prim.Native.Nat.{ℕ, zero, suc, _≤_, _<_}
 use mathlib.Core.Bool.{Bool, true, false, false≢true}
 use mathlib.Core.Logic.{⊎-elim}

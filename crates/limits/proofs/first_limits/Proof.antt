@@ -1,5 +1,4 @@
 -- `limits::first_limits` meets its contract.
--- Assumes nothing.
 use Rattle.model.specs.Sheet.{first-limits}
 use borrow.Author.Needs.{needs}
 use Rattle.limits.proofs.first_limits.Statement.{statement}

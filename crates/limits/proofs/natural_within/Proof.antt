@@ -1,5 +1,4 @@
 -- `limits::natural_within` meets its contract: a number past the largest i64 is above every limit.
--- Assumes nothing.
 use Prim.Native.Nat.{ℕ, _-_, _<_, _^_}
 use mathlib.Core.Path.{_≡_, refl}
 use mathlib.Core.Bool.{Bool, true, false, _&&_}

@@ -1,5 +1,4 @@
 -- `limits::step_within` meets its contract: the range of the step's length.
--- Assumes nothing.
 use Prim.Native.Nat.{ℕ}
 use mathlib.Core.Path.{_≡_, ap, _∙_}
 use mathlib.Core.Bool.{Bool}

@@ -1,5 +1,4 @@
 -- `limits::steps_limits` meets its contract.
--- Assumes nothing.
 use Rattle.model.specs.Sheet.{steps-limits}
 use borrow.Author.Needs.{needs}
 use Rattle.limits.proofs.steps_limits.Statement.{statement}

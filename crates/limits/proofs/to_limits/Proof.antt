@@ -1,5 +1,4 @@
 -- `limits::to_limits` meets its contract.
--- Assumes nothing.
 use Rattle.model.specs.Sheet.{to-limits}
 use borrow.Author.Needs.{needs}
 use Rattle.limits.proofs.to_limits.Statement.{statement}

@@ -1,5 +1,4 @@
 -- `model::no_term` meets its contract.
--- Assumes nothing.
 use mathlib.Core.Path.{refl}
 use Rattle.model.specs.Sheet.{no-term}
 use Rattle.model.proofs.no_term.Statement.{statement}

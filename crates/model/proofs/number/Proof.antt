@@ -1,4 +1,4 @@
--- `model::number` meets its contract, refusal by refusal. Assumes nothing.
+-- `model::number` meets its contract, refusal by refusal.
 use mathlib.Core.Path.{sym, ap}
 use Rattle.model.specs.Sheet.{number}
 use borrow.Author.Needs.{needs}

@@ -1,4 +1,4 @@
--- `model::refused_step` meets its contract. Assumes nothing.
+-- `model::refused_step` meets its contract.
 use mathlib.Core.Path.{sym, ap}
 use Rattle.model.specs.Sheet.{refusedStep}
 use borrow.Author.Needs.{needs}

@@ -1,4 +1,4 @@
--- `model::result` meets its contract. Assumes nothing.
+-- `model::result` meets its contract.
 use mathlib.Core.Path.{sym, ap, _∙_}
 use Rattle.model.specs.Sheet.{result}
 use borrow.Author.Needs.{needs}

@@ -1,5 +1,4 @@
 -- `new_row::new_ball` meets its contract. The loop forms the sums over the orders passed, the radius starting from the tail.
--- Assumes nothing.
 use Prim.Native.Nat.{ℕ, suc, _+_, _-_, _*_, _≤_, _<_}
 use mathlib.Core.List.{List}
 use mathlib.Core.Path.{_≡_, refl, sym, ap, _∙_}

@@ -1,5 +1,4 @@
 -- `new_row::new_balls` meets its contract. The loop's invariant: the new balls of the quantities passed are stored.
--- Assumes nothing.
 use Prim.Native.Nat.{_-_, _≤_}
 use mathlib.Core.Path.{_≡_, refl}
 use native.Mathlib.Omega.{arith}

@@ -1,5 +1,4 @@
 -- `new_row::new_span` meets its contract. The loop adds the reach of one order more, from order 1 on; the table keeps |c| + e as it is.
--- Assumes nothing.
 use Prim.Native.Nat.{ℕ, suc, _+_, _-_, _*_, _^_, _≤_, _<_}
 use mathlib.Core.List.{List}
 use mathlib.Core.Path.{_≡_, sym, ap, ap₂, _∙_}

@@ -1,4 +1,4 @@
--- `number_cases::print_line` meets its contract: the line ends where there was room for it. Assumes nothing.
+-- `number_cases::print_line` meets its contract: the line ends where there was room for it.
 use Prim.Native.Nat.{_≤_}
 use mathlib.Core.Path.{sym, ap}
 use borrow.Author.Needs.{needs}

@@ -1,5 +1,4 @@
 -- `number_cases::show` meets its contract: both lines fit, that of a number in its range and that of a number that was read.
--- Assumes nothing.
 use Prim.Native.Nat.{_^_, _<_}
 use mathlib.Core.Path.{sym}
 use native.Mathlib.Omega.{arith}

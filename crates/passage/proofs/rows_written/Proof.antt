@@ -1,5 +1,4 @@
 -- `passage::rows_written` meets its contract. Each arm is a case of the definition.
--- Assumes nothing.
 use Prim.Native.Nat.{ℕ, _-_}
 use mathlib.Core.Path.{_≡_}
 use native.Mathlib.Omega.{arith}

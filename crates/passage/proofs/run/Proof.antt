@@ -1,4 +1,4 @@
--- `passage::run` meets its contract. Assumes nothing.
+-- `passage::run` meets its contract.
 use mathlib.Core.List.{List}
 use mathlib.Core.Path.{_≡_}
 use native.Mathlib.Omega.{arith}

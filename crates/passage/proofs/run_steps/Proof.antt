@@ -1,5 +1,4 @@
 -- `passage::run_steps` meets its contract. The loop's invariant: the passage is under way, and the table may be used.
--- Assumes nothing.
 use Prim.Native.Nat.{ℕ, _+_, _-_, _*_, _≤_, _<_}
 use mathlib.Core.List.{List}
 use mathlib.Core.Path.{_≡_}

@@ -1,4 +1,4 @@
--- `passage::start_value` meets its contract. Assumes nothing.
+-- `passage::start_value` meets its contract.
 use mir.Facts.{toZ-ofZ}
 use Rattle.model.specs.Sheet.{startValue}
 use borrow.Author.Needs.{needs}

@@ -1,5 +1,4 @@
 -- `passage::starts_of` meets its contract. The loop's invariant: the arrays begin with the starts passed.
--- Assumes nothing.
 use Prim.Native.Nat.{_-_, _≤_}
 use mathlib.Core.Path.{refl}
 use native.Mathlib.Omega.{arith}

@@ -1,4 +1,4 @@
--- `planner::main` meets its contract. Assumes nothing.
+-- `planner::main` meets its contract.
 use mathlib.Core.Path.{sym}
 use lib.Seq.{length-take-le}
 use borrow.Author.Needs.{needs}

@@ -1,5 +1,4 @@
 -- `products::convolution` meets its contract. The sum is that of the products passed.
--- Assumes nothing.
 use Prim.Native.Nat.{ℕ, suc, _-_, _≤_, _<_}
 use mathlib.Core.Path.{_≡_, ap, _∙_}
 use native.Mathlib.Numerals.{add-one}

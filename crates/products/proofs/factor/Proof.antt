@@ -1,5 +1,4 @@
 -- `products::factor` meets its contract. Each return is a case of the definition.
--- Assumes nothing.
 use Prim.Native.Nat.{ℕ, zero, suc, _+_, _-_, _*_, _≤_}
 use mathlib.Core.Logic.{_≢_}
 use mathlib.Core.List.{List}

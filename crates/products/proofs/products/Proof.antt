@@ -1,5 +1,4 @@
 -- `products::products` meets its contract. Without a second factor it is the first, and otherwise their convolution.
--- Assumes nothing.
 use Prim.Native.Nat.{ℕ, zero, suc, _≤_}
 use mathlib.Core.Logic.{_≢_}
 use mathlib.Core.Path.{_≡_, refl}

@@ -1,5 +1,4 @@
 -- `products::share` meets its contract. It is the definition, one call for each part.
--- Assumes nothing.
 use Prim.Native.Nat.{ℕ, _*_, _^_, _<_}
 use mathlib.Core.List.{List}
 use mathlib.Core.Path.{_≡_}

@@ -1,5 +1,4 @@
 -- `products::times` meets its contract. |a| times the reach bounds both products.
--- Assumes nothing.
 use Prim.Native.Nat.{ℕ, _+_, _*_, _^_, _<_}
 use mathlib.Core.Path.{_≡_, ap, _∙_}
 use native.Mathlib.Omega.{arith}

@@ -1,5 +1,4 @@
 -- `products::with_product` meets its contract. The products and their roundings fit, since the reaches do.
--- Assumes nothing.
 use Prim.Native.Nat.{ℕ, _+_, _-_, _*_, _^_, _≤_}
 use mathlib.Core.Path.{_≡_, ap, ap₂, _∙_}
 use native.Mathlib.Nat.{mul-le-mul}

@@ -1,5 +1,4 @@
 -- `rounding::magnitude` meets its contract. Below zero, n + 1 is -(|n| - 1).
--- Assumes nothing.
 use Prim.Native.Nat.{_+_, _-_, _<_, _^_}
 use mathlib.Core.Path.{_≡_, _∙_}
 use native.Mathlib.Omega.{arith}

@@ -1,5 +1,4 @@
 -- `rounding::near` meets its contract. The magnitude is rounded, and the sign put back.
--- Assumes nothing.
 use Prim.Native.Nat.{ℕ, _<_, _≤_, _^_}
 use mathlib.Core.Path.{_≡_, sym, ap, _∙_, subst}
 use mathlib.Core.Bool.{false}

@@ -1,5 +1,4 @@
 -- `rounding::near_magnitude` meets its contract. Half of d, rounded down, is what the nearest multiple may lie above m.
--- Assumes nothing.
 use Prim.Native.Nat.{ℕ, _+_, _/_, _<_}
 use mathlib.Core.Path.{_≡_}
 use native.Mathlib.Nat.{div-add-mod', mod-lt}

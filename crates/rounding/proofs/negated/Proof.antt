@@ -1,5 +1,4 @@
 -- `rounding::negated` meets its contract. -m is -1 - (m - 1), where nothing leaves the range.
--- Assumes nothing.
 use Prim.Native.Nat.{ℕ, suc, _-_, _≤_, _^_}
 use mathlib.Core.Path.{_≡_, sym, ap, _∙_}
 use mathlib.Core.Logic.{_≢_}

@@ -1,5 +1,4 @@
 -- `rounding::product` meets its contract. The product of two numbers below 2^32 is below 2^64.
--- Assumes nothing.
 use borrow.Author.Needs.{needs}
 use Rattle.rounding.proofs.Integers.{mul-lt}
 use Rattle.rounding.proofs.product.Statement.{statement}

@@ -1,5 +1,4 @@
 -- `rounding::up` meets its contract. The quotient is exact where the remainder is 0, and one short elsewhere.
--- Assumes nothing.
 use Prim.Native.Nat.{ℕ, _+_, _*_, _/_, _%_, _<_, _≤_}
 use mathlib.Core.Path.{_≡_}
 use native.Mathlib.Nat.{div-add-mod', mod-lt, le-mul-of-pos-right, le-of-mul-le-mul-right, lt-of-mul-lt-mul-right}

@@ -1,5 +1,4 @@
 -- `rounding::up_and_one` meets its contract. 2d - 1 is d - 1, which makes the division `up`, and d, which adds the one.
--- Assumes nothing.
 use Prim.Native.Nat.{ℕ, _+_, _*_, _-_, _/_, _<_, _≤_}
 use mathlib.Core.Path.{_≡_}
 use native.Mathlib.Nat.{div-eq-of-lt-le, div-add-mod', mod-lt}

@@ -1,4 +1,4 @@
--- `rows::degree_at` meets its contract. Assumes nothing.
+-- `rows::degree_at` meets its contract.
 use mathlib.Core.Path.{refl}
 use native.Mathlib.Omega.{arith}
 use borrow.Author.Needs.{needs}

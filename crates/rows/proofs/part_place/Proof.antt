@@ -1,4 +1,4 @@
--- `rows::part_place` meets its contract. Assumes nothing.
+-- `rows::part_place` meets its contract.
 use Prim.Native.Nat.{_^_, _<_}
 use mathlib.Core.Path.{refl}
 use native.Mathlib.Omega.{arith}

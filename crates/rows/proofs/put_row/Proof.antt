@@ -1,4 +1,4 @@
--- `rows::put_row` meets its contract. Assumes nothing.
+-- `rows::put_row` meets its contract.
 use Prim.Native.Nat.{ℕ, _^_, _<_}
 use mathlib.Core.List.{List, _++_}
 use mathlib.Core.Path.{_≡_}

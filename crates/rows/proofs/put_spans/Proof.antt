@@ -1,4 +1,4 @@
--- `rows::put_spans` meets its contract. Assumes nothing.
+-- `rows::put_spans` meets its contract.
 use native.Mathlib.Omega.{arith}
 use borrow.Author.Needs.{needs}
 use lib.Seq.{length-sets}

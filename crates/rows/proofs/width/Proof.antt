@@ -1,4 +1,4 @@
--- `rows::width` meets its contract. Assumes nothing.
+-- `rows::width` meets its contract.
 use mathlib.Core.Path.{refl}
 use native.Mathlib.Omega.{arith}
 use Rattle.model.specs.Rows.{width}

@@ -1,5 +1,4 @@
 -- `sheet::no_head` meets its contract.
--- Assumes nothing.
 use mathlib.Core.Path.{refl}
 use Rattle.model.specs.Sheet.{no-head}
 use Rattle.sheet.proofs.no_head.Statement.{statement}

@@ -1,5 +1,4 @@
 -- `sheet::read` meets its contract: the reading with the most steps of a sheet.
--- Assumes nothing.
 use denote.Ref.{now}
 use Rattle.model.specs.Sheet.{most-steps}
 use borrow.Author.Needs.{needs}

@@ -1,5 +1,4 @@
 -- `sheet::read_body` meets its contract: the quantities, the terms and the end, one after the other.
--- Assumes nothing.
 use Prim.Native.Nat.{ℕ}
 use mathlib.Core.Path.{_≡_, sym, ap, _∙_}
 use mathlib.Core.List.{List}

@@ -1,4 +1,4 @@
--- `sheet::read_stored` meets its contract: the reading with the most steps of a stored sheet. Assumes nothing.
+-- `sheet::read_stored` meets its contract: the reading with the most steps of a stored sheet.
 use denote.Ref.{now}
 use Rattle.model.specs.Sheet.{stored-steps}
 use borrow.Author.Needs.{needs}

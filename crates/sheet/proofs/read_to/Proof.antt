@@ -1,5 +1,4 @@
 -- `sheet::read_to` meets its contract: question 1, then the parts of the sheet.
--- Assumes nothing.
 use Prim.Native.Nat.{ℕ, _<_, _≤_}
 use mathlib.Core.Path.{_≡_, sym, ap, _∙_}
 use mathlib.Core.List.{List}

@@ -1,5 +1,4 @@
 -- `sheet::refused` meets its contract.
--- Assumes nothing.
 use mathlib.Core.Path.{_≡_}
 use lib.ListN.{replicate}
 use Rattle.model.specs.Sheet.{most-quantities, most-terms, no-head, no-quantity, no-term, no-sheet, padded, quantitiesHeld, termsHeld}

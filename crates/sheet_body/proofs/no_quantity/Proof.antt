@@ -1,5 +1,4 @@
 -- `sheet_body::no_quantity` meets its contract.
--- Assumes nothing.
 use mathlib.Core.Path.{refl}
 use Rattle.model.specs.Sheet.{no-quantity}
 use Rattle.sheet_body.proofs.no_quantity.Statement.{statement}

@@ -1,5 +1,4 @@
 -- `sheet_body::read_quantities` meets its contract. The invariant: the lines so far gave the front of the list.
--- Assumes nothing.
 use Prim.Native.Nat.{_-_, _≤_}
 use mathlib.Core.Path.{refl, sym}
 use native.Mathlib.Omega.{arith}

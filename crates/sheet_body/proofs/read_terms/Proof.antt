@@ -1,5 +1,4 @@
 -- `sheet_body::read_terms` meets its contract. The invariant: the lines so far gave the front of the list.
--- Assumes nothing.
 use Prim.Native.Nat.{ℕ, _-_, _≤_}
 use mathlib.Core.Path.{_≡_, refl, sym, ap, _∙_}
 use mathlib.Core.List.{List}

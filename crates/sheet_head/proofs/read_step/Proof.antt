@@ -1,5 +1,4 @@
 -- `sheet_head::read_step` meets its contract: the line, and then the step's range.
--- Assumes nothing.
 use mathlib.Core.Path.{_≡_, sym, _∙_}
 use denote.Ref.{now}
 use mir.Facts.{toZ-ofZ}

@@ -1,4 +1,4 @@
--- `sheet_parts::balls_of` meets its contract. The loop's invariant: the arrays begin with the balls passed. Assumes nothing.
+-- `sheet_parts::balls_of` meets its contract. The loop's invariant: the arrays begin with the balls passed.
 use Prim.Native.Nat.{_-_, _≤_}
 use mathlib.Core.Path.{refl}
 use native.Mathlib.Omega.{arith}

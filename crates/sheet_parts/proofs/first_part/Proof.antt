@@ -1,4 +1,4 @@
--- `sheet_parts::first_part` meets its contract: the sheet with another head. Assumes nothing.
+-- `sheet_parts::first_part` meets its contract: the sheet with another head.
 use borrow.Author.Needs.{needs}
 use Rattle.stored.specs.Conversion.{firstPart}
 use Rattle.sheet_parts.proofs.first_part.Statement.{statement}

@@ -1,4 +1,4 @@
--- `sheet_parts::second_part` meets its contract: the sheet with another head and other starts. Assumes nothing.
+-- `sheet_parts::second_part` meets its contract: the sheet with another head and other starts.
 use Prim.Native.Nat.{_-_}
 use mathlib.Core.List.{List, map}
 use mathlib.Core.Path.{_≡_, ap, _∙_}

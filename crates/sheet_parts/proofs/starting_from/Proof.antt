@@ -1,4 +1,4 @@
--- `sheet_parts::starting_from` meets its contract. After i turns the first i quantities stand in the array. Assumes nothing.
+-- `sheet_parts::starting_from` meets its contract. After i turns the first i quantities stand in the array.
 use Prim.Native.Nat.{ℕ, _+_, _-_, _≤_}
 use mathlib.Core.List.{List, map}
 use mathlib.Core.Path.{_≡_, sym, ap, _∙_}

@@ -1,4 +1,4 @@
--- `sheet_parts::with_steps` meets its contract. Assumes nothing.
+-- `sheet_parts::with_steps` meets its contract.
 use borrow.Author.Needs.{needs}
 use Rattle.stored.specs.Conversion.{withSteps}
 use Rattle.sheet_parts.proofs.with_steps.Statement.{statement}

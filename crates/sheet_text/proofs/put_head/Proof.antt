@@ -1,4 +1,4 @@
--- `sheet_text::put_head` meets its contract: its five lines, one after the other. Assumes nothing.
+-- `sheet_text::put_head` meets its contract: its five lines, one after the other.
 use Prim.Native.Nat.{ℕ}
 use mathlib.Core.List.{List, _++_}
 use native.Mathlib.Omega.{arith}

@@ -1,5 +1,4 @@
 -- `sheet_text::put_lines` meets its contract: the head, the quantities, how many terms there are, and the terms.
--- Assumes nothing.
 use Prim.Native.Nat.{_+_, _*_, _≤_}
 use mathlib.Core.List.{_++_, flatten}
 use native.Mathlib.Omega.{arith}

@@ -1,4 +1,4 @@
--- `sheet_text::put_quantities` meets its contract. After i turns the first i quantities are put. Assumes nothing.
+-- `sheet_text::put_quantities` meets its contract. After i turns the first i quantities are put.
 use Prim.Native.Nat.{ℕ, _+_, _-_, _*_, _≤_}
 use mathlib.Core.Path.{_≡_, ap}
 use mathlib.Core.List.{List, flatten}

@@ -1,4 +1,4 @@
--- `sheet_text::put_quantity` meets its contract: the start, and then its radius. Assumes nothing.
+-- `sheet_text::put_quantity` meets its contract: the start, and then its radius.
 use mathlib.Core.List.{_++_}
 use native.Mathlib.Omega.{arith}
 use borrow.Author.Needs.{needs}

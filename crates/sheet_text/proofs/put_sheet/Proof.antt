@@ -1,5 +1,4 @@
 -- `sheet_text::put_sheet` meets its contract: the lines in a buffer of their own, and from there into the text.
--- Assumes nothing.
 use Prim.Native.Nat.{_≤_}
 use mathlib.Core.Path.{_≡_, sym}
 use native.Mathlib.Omega.{arith}

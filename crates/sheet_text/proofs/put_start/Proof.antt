@@ -1,4 +1,4 @@
--- `sheet_text::put_start` meets its contract: the line of a number, or that of no reading. Assumes nothing.
+-- `sheet_text::put_start` meets its contract: the line of a number, or that of no reading.
 use Prim.Native.Nat.{_^_, _<_}
 use mathlib.Core.Path.{_≡_, sym}
 use native.Mathlib.Omega.{arith}

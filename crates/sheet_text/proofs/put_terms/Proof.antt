@@ -1,4 +1,4 @@
--- `sheet_text::put_terms` meets its contract. After j turns the first j terms are put. Assumes nothing.
+-- `sheet_text::put_terms` meets its contract. After j turns the first j terms are put.
 use Prim.Native.Nat.{ℕ, _+_, _-_, _*_, _≤_}
 use mathlib.Core.Path.{_≡_, ap}
 use mathlib.Core.List.{List, flatten}

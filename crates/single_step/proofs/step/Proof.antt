@@ -1,4 +1,4 @@
--- `single_step::step` meets its contract. Assumes nothing.
+-- `single_step::step` meets its contract.
 use mathlib.Core.Path.{_≡_, sym, ap, _∙_}
 use Rattle.model.specs.Sheet.{passes, sheetVerdict, listed, termsOf}
 use Rattle.coefficients.proofs.Filling.{blank-usable}

@@ -1,4 +1,4 @@
--- `tens::power_of_ten` meets its contract, by the table's rule alone. Assumes nothing.
+-- `tens::power_of_ten` meets its contract, by the table's rule alone.
 use borrow.Author.Needs.{needs}
 use Rattle.tens.proofs.Tens.{entry-is-power}
 use Rattle.tens.proofs.power_of_ten.Statement.{statement}

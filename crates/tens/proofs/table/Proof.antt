@@ -1,4 +1,4 @@
--- `tens::table` meets its contract: the rule, by a test that is computed over the whole table. Assumes nothing.
+-- `tens::table` meets its contract: the rule, by a test that is computed over the whole table.
 use mathlib.Core.Path.{refl}
 use Rattle.tens.proofs.Tens.{tenfold, rule-by-test}
 use Rattle.tens.proofs.table.Statement.{statement}

@@ -1,4 +1,4 @@
--- `terms::drop_zeros` meets its contract. The loop forms the list of those that are not 0. Assumes nothing.
+-- `terms::drop_zeros` meets its contract. The loop forms the list of those that are not 0.
 use Prim.Native.Nat.{ℕ, _+_, _-_, _≤_, _<_}
 use mathlib.Core.Bool.{Bool, true, false}
 use mathlib.Core.List.{List, [], _∷_, _++_, append-nil}

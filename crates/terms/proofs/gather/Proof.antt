@@ -1,4 +1,4 @@
--- `terms::gather` meets its contract. Assumes nothing.
+-- `terms::gather` meets its contract.
 use Prim.Native.Nat.{_≤_}
 use mathlib.Core.List.{List}
 use mathlib.Core.Path.{_≡_, ap, _∙_}

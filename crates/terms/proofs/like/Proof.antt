@@ -1,4 +1,4 @@
--- `terms::like` meets its contract. Each return is a case of the definition. Assumes nothing.
+-- `terms::like` meets its contract. Each return is a case of the definition.
 use mathlib.Core.Bool.{Bool, true, false, _&&_, _||_}
 use mathlib.Core.Path.{_≡_, sym, ap, ap₂, _∙_}
 use borrow.Author.Needs.{needs}

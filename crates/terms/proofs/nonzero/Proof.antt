@@ -1,4 +1,4 @@
--- `terms::nonzero` meets its contract. Assumes nothing.
+-- `terms::nonzero` meets its contract.
 use mathlib.Core.Bool.{Bool, true, false, not}
 use mathlib.Core.Path.{_≡_, refl, sym, ap, _∙_}
 use borrow.Author.Tests.{eqb-true, eqb-false}

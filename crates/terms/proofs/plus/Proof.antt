@@ -1,4 +1,4 @@
--- `terms::plus` meets its contract. Assumes nothing.
+-- `terms::plus` meets its contract.
 use Prim.Native.Nat.{_+_, _^_, _<_}
 use mathlib.Core.Path.{_≡_, ap, ap₂, _∙_}
 use native.Mathlib.Omega.{arith}

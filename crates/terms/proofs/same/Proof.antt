@@ -1,4 +1,4 @@
--- `terms::same` meets its contract. Assumes nothing.
+-- `terms::same` meets its contract.
 use mathlib.Core.Bool.{Bool, _&&_}
 use mathlib.Core.Path.{_≡_, sym, ap, _∙_}
 use borrow.Author.Tests.{eq-eqb, ne-eqb}

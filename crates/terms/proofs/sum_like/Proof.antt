@@ -1,5 +1,5 @@
 -- `terms::sum_like` meets its contract. The outer loop forms the sums of the terms passed; the inner one finds the first of them that the next term
--- is like. Assumes nothing.
+-- is like.
 use Prim.Native.Nat.{ℕ, _+_, _-_, _^_, _≤_, _<_}
 use mathlib.Core.Bool.{Bool, true, false}
 use mathlib.Core.List.{List}

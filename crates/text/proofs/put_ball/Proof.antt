@@ -1,4 +1,4 @@
--- `text::put_ball` meets its contract: the value's line and the radius's. Assumes nothing.
+-- `text::put_ball` meets its contract: the value's line and the radius's.
 use Prim.Native.Nat.{ℕ, _^_, _≤_, _<_}
 use mathlib.Core.Path.{_≡_, sym}
 use mathlib.Core.List.{_++_}

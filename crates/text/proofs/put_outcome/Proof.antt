@@ -1,4 +1,4 @@
--- `text::put_outcome` meets its contract: the result's line and the step's. Assumes nothing.
+-- `text::put_outcome` meets its contract: the result's line and the step's.
 use Prim.Native.Nat.{ℕ, _^_, _≤_, _<_}
 use mathlib.Core.Path.{_≡_, sym, _∙_}
 use mathlib.Core.List.{List, _++_}

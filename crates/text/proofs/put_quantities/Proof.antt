@@ -1,4 +1,4 @@
--- `text::put_quantities` meets its contract. After i turns the first i quantities are put. Assumes nothing.
+-- `text::put_quantities` meets its contract. After i turns the first i quantities are put.
 use Prim.Native.Nat.{ℕ, _+_, _-_, _*_, _≤_, _<_}
 use mathlib.Core.Path.{_≡_, ap, ap₂, _∙_}
 use mathlib.Core.List.{List, _++_}

@@ -1,5 +1,4 @@
 -- `text::put_row` meets its contract: the lines of the number and the degree, and those of the quantities.
--- Assumes nothing.
 use Prim.Native.Nat.{ℕ, suc, _+_, _^_, _≤_, _<_}
 use mathlib.Core.Path.{_≡_, sym}
 use mathlib.Core.List.{List, [], _∷_, _++_, append-nil}

@@ -1,4 +1,4 @@
--- `text::put_rows` meets its contract. After so many turns that many rows are put. Assumes nothing.
+-- `text::put_rows` meets its contract. After so many turns that many rows are put.
 use Prim.Native.Nat.{ℕ, suc, _-_, _*_, _≤_}
 use mathlib.Core.Path.{_≡_, refl, sym, ap, _∙_}
 use mathlib.Core.List.{List, [], _∷_}

@@ -1,4 +1,4 @@
--- `text::put_run` meets its contract: the rows, and then the outcome. Assumes nothing.
+-- `text::put_run` meets its contract: the rows, and then the outcome.
 use Prim.Native.Nat.{_*_, _≤_}
 use native.Mathlib.Omega.{arith}
 use Rattle.model.specs.Sheet.{most-quantities, most-steps}

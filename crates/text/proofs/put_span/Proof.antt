@@ -1,4 +1,4 @@
--- `text::put_span` meets its contract: the low's line and the high's. Assumes nothing.
+-- `text::put_span` meets its contract: the low's line and the high's.
 use Prim.Native.Nat.{_≤_}
 use mathlib.Core.Path.{_≡_, sym}
 use mathlib.Core.List.{_++_}

@@ -1,5 +1,4 @@
 -- `verdict::head_within` meets its contract: each answer is that of its question, and the first no decides.
--- Assumes nothing.
 use mathlib.Core.Path.{_≡_, refl, sym, _∙_}
 use mathlib.Core.Bool.{true}
 use borrow.Author.Tests.{not-true, not-false}

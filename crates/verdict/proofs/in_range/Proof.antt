@@ -1,5 +1,4 @@
 -- `verdict::in_range` meets its contract.
--- Assumes nothing.
 use Rattle.model.specs.Sheet.{verdictOutcome, ask}
 use Rattle.verdict.proofs.in_range.Statement.{statement}
 use Rattle.verdict.proofs.in_range.Tie as tie

@@ -1,5 +1,4 @@
 -- `verdict::quantities_verdict` meets its contract. The invariant: every quantity passed so far passes.
--- Assumes nothing.
 use Prim.Native.Nat.{ℕ, _-_, _≤_}
 use mathlib.Core.Path.{_≡_, refl, sym, ap, _∙_}
 use native.Mathlib.Omega.{arith}

@@ -1,5 +1,4 @@
 -- `verdict::quantity_verdict` meets its contract.
--- Assumes nothing.
 use mathlib.Core.Path.{sym, ap, _∙_}
 use lib.IntN.{pos}
 use mathlib.Core.Bool.{Bool}

@@ -1,5 +1,4 @@
 -- `verdict::start_verdict` meets its contract.
--- Assumes nothing.
 use mathlib.Core.Path.{_≡_, ap, _∙_}
 use mathlib.Core.Bool.{Bool}
 use mir.Facts.{toZ-ofZ}

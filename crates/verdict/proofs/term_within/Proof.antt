@@ -1,5 +1,4 @@
 -- `verdict::term_within` meets its contract: each answer is that of its question, and the first no decides.
--- Assumes nothing.
 use mathlib.Core.Path.{_≡_, refl}
 use mathlib.Core.Bool.{true}
 use lib.IntN.{pos}

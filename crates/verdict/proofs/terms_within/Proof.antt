@@ -1,5 +1,4 @@
 -- `verdict::terms_within` meets its contract. The invariant: every term passed so far passes.
--- Assumes nothing.
 use Prim.Native.Nat.{ℕ, _-_, _≤_}
 use mathlib.Core.Path.{_≡_, refl, sym, _∙_}
 use mathlib.Core.Bool.{true}

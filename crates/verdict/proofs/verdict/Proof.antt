@@ -1,5 +1,4 @@
 -- `verdict::verdict` meets its contract: the parts of the sheet's verdict, one after the other.
--- Assumes nothing.
 use mathlib.Core.Path.{_≡_, sym, ap, _∙_}
 use mathlib.Core.Bool.{Bool}
 use borrow.Author.Tests.{not-true, not-false}

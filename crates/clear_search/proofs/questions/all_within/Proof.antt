@@ -1,5 +1,4 @@
 -- `clear_search::questions::all_within` meets its contract. The loop stops at the first number outside.
--- Assumes nothing.
 use Prim.Native.Nat.{ℕ, _+_, _-_, _≤_}
 use mathlib.Core.Bool.{Bool, true}
 use mathlib.Core.List.{List}

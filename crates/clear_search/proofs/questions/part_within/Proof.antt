@@ -1,5 +1,4 @@
 -- `clear_search::questions::part_within` meets its contract: a part's numbers stand from its first place on.
--- Assumes nothing.
 use Prim.Native.Nat.{ℕ, _+_, _≤_, _<_}
 use mathlib.Core.Bool.{Bool}
 use mathlib.Core.List.{List}

@@ -1,5 +1,4 @@
 -- `clear_search::questions::query_within` meets its contract: each answer is that of its question, and the first no decides.
--- Assumes nothing.
 use Prim.Native.Nat.{ℕ, _+_}
 use mathlib.Core.Bool.{Bool, true, false}
 use mathlib.Core.Path.{_≡_, sym, _∙_}

@@ -1,5 +1,4 @@
 -- `clear_search::questions::row_within` meets its contract: each answer is that of its part, and the first no decides.
--- Assumes nothing.
 use Prim.Native.Nat.{ℕ}
 use mathlib.Core.Bool.{Bool, true, false}
 use mathlib.Core.List.{List}

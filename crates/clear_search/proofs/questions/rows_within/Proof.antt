@@ -1,5 +1,4 @@
 -- `clear_search::questions::rows_within` meets its contract. The loop stops at the first row with a number outside.
--- Assumes nothing.
 use Prim.Native.Nat.{ℕ, _-_, _≤_}
 use mathlib.Core.Bool.{true}
 use mathlib.Core.Path.{_≡_, sym, ap, _∙_}

@@ -1,5 +1,4 @@
 -- `clear_search::search::assured` meets its contract. The loop adds to the base what the quantities passed count.
--- Assumes nothing.
 use Prim.Native.Nat.{_-_, _≤_}
 use mathlib.Core.Path.{_≡_}
 use native.Mathlib.Numerals.{add-one}

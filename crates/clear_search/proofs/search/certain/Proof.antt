@@ -1,5 +1,4 @@
 -- `clear_search::search::certain` meets its contract: the test on the bits is that of the definition.
--- Assumes nothing.
 use Prim.Native.Nat.{ℕ}
 use mathlib.Core.List.{List}
 use mathlib.Core.Path.{_≡_, ap, ap₂, _∙_}

@@ -1,5 +1,4 @@
 -- `clear_search::search::end_at` meets its contract: the test of the weight's bits is that of its sign.
--- Assumes nothing.
 use mathlib.Core.Path.{sym, _∙_}
 use borrow.Author.Needs.{needs}
 use mir.Facts.{toZ-ofZ}

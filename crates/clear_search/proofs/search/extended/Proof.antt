@@ -1,4 +1,4 @@
--- `clear_search::search::extended` meets its contract. Assumes nothing.
+-- `clear_search::search::extended` meets its contract.
 use Prim.Native.Nat.{ℕ, _+_}
 use mathlib.Core.Bool.{Bool, true, false, cond}
 use mathlib.Core.Path.{_≡_}

@@ -1,5 +1,4 @@
 -- `clear_search::search::first_run` meets its contract. The invariant: the rows passed end in a streak of certain ones, shorter than a run.
--- Assumes nothing.
 use Prim.Native.Nat.{ℕ, _+_, _-_, _≤_, _<_}
 use mathlib.Core.Bool.{Bool, true, false, cond}
 use mathlib.Core.List.{List}

@@ -1,5 +1,4 @@
 -- `lines::cursor::is_digit` meets its contract.
--- Assumes nothing.
 use borrow.Author.Tests.{le-leb, lt-leb}
 use Rattle.model.specs.Reading.{isDigit}
 use Rattle.lines.proofs.cursor.is_digit.Statement.{statement}

@@ -1,5 +1,4 @@
 -- `ratio::degree::truncate` meets its contract. The loop passes the orders whose tail is over the limit.
--- Assumes nothing.
 use Prim.Native.Nat.{ℕ, suc, _+_, _-_, _*_, _≤_, _<_}
 use mathlib.Core.Path.{_≡_, ap, _∙_}
 use native.Mathlib.Nat.{mul-le-mul, le-antisymm}

@@ -1,5 +1,4 @@
 -- `ratio::sizes::coef_of` meets its contract. Each return is a case of the definition.
--- Assumes nothing.
 use Prim.Native.Nat.{ℕ}
 use mathlib.Core.Path.{_≡_, _∙_}
 use lib.IntN.{natAbs}

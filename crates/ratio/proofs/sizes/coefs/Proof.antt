@@ -1,5 +1,4 @@
 -- `ratio::sizes::coefs` meets its contract. The loop forms the sum over the terms passed.
--- Assumes nothing.
 use Prim.Native.Nat.{ℕ, _+_, _-_, _≤_, _<_}
 use mathlib.Core.Path.{_≡_, refl, ap, _∙_}
 use mathlib.Core.List.{List}

@@ -1,5 +1,4 @@
 -- `ratio::sizes::factors` meets its contract. Each return is a case of the definition.
--- Assumes nothing.
 use borrow.Author.Tests.{eq-eqb, ne-eqb}
 use Rattle.model.specs.Step.{factors}
 use Rattle.ratio.proofs.sizes.factors.Statement.{statement}

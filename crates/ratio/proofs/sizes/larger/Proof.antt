@@ -1,5 +1,4 @@
 -- `ratio::sizes::larger` meets its contract.
--- Assumes nothing.
 use native.Mathlib.Omega.{arith}
 use Rattle.ratio.proofs.sizes.larger.Statement.{statement}
 use Rattle.ratio.proofs.sizes.larger.Tie as tie

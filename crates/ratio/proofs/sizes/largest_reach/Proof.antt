@@ -1,5 +1,4 @@
 -- `ratio::sizes::largest_reach` meets its contract. The loop forms the largest reach of the balls passed.
--- Assumes nothing.
 use Prim.Native.Nat.{ℕ, suc, _+_, _-_, max, _≤_}
 use mathlib.Core.Path.{_≡_, sym, ap, _∙_}
 use mathlib.Core.List.{List}

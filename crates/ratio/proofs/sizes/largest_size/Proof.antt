@@ -1,5 +1,4 @@
 -- `ratio::sizes::largest_size` meets its contract. The loop forms the largest size of the targets passed.
--- Assumes nothing.
 use Prim.Native.Nat.{ℕ, _+_, _-_, max, _≤_, _<_}
 use mathlib.Core.List.{List}
 use mathlib.Core.Path.{_≡_, refl, ap, _∙_}

@@ -1,5 +1,4 @@
 -- `ratio::sizes::ratio` meets its contract. The largest size and |H| multiply within 64 bits.
--- Assumes nothing.
 use Prim.Native.Nat.{ℕ, _*_, _^_, _≤_, _<_}
 use mathlib.Core.List.{List}
 use mathlib.Core.Path.{ap, ap₂, _∙_}

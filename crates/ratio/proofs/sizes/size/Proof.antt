@@ -1,5 +1,4 @@
 -- `ratio::sizes::size` meets its contract. It is the definition, over the three sums of the target.
--- Assumes nothing.
 use Prim.Native.Nat.{ℕ, suc, _+_, _*_, _^_, _≤_}
 use mathlib.Core.List.{List}
 use mathlib.Core.Path.{_≡_}

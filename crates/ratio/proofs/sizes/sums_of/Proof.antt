@@ -1,5 +1,4 @@
 -- `ratio::sizes::sums_of` meets its contract. The loop's invariant: the targets passed have their sums.
--- Assumes nothing.
 use Prim.Native.Nat.{ℕ, zero, suc, _+_, _-_, _*_, _≤_, _<_}
 use mathlib.Core.List.{List}
 use mathlib.Core.Logic.{⊎-elim}

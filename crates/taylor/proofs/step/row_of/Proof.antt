@@ -1,5 +1,4 @@
 -- `taylor::step::row_of` meets its contract. The table is filled, and its row is the definition's.
--- Assumes nothing.
 use Prim.Native.Nat.{ℕ, _^_, _≤_, _<_}
 use mathlib.Core.List.{List}
 use mathlib.Core.Path.{_≡_, _∙_}

@@ -1,5 +1,4 @@
 -- `taylor::step::small` meets its contract. The loop stops at the first ball that reaches too far.
--- Assumes nothing.
 use Prim.Native.Nat.{ℕ, _+_, _-_, _≤_, _<_}
 use mathlib.Core.Bool.{Bool, true, false}
 use mathlib.Core.Path.{_≡_, sym, ap, _∙_}

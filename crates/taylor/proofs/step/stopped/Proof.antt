@@ -1,4 +1,4 @@
--- `taylor::step::stopped` meets its contract. Assumes nothing.
+-- `taylor::step::stopped` meets its contract.
 use mathlib.Core.Path.{refl}
 use Rattle.model.specs.Sheet.{padded}
 use Rattle.model.specs.Rows.{spansLaidOut, no-spans}

@@ -1,5 +1,4 @@
 -- `taylor::step::take_step` meets its contract. Question after question, as the definition asks them.
--- Assumes nothing.
 use Prim.Native.Nat.{ℕ, _≤_, _<_}
 use mathlib.Core.Bool.{true}
 use mathlib.Core.List.{List}

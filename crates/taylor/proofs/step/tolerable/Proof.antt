@@ -1,5 +1,4 @@
 -- `taylor::step::tolerable` meets its contract. The loop stops at the first radius over the tolerance.
--- Assumes nothing.
 use Prim.Native.Nat.{ℕ, _-_, _≤_}
 use mathlib.Core.Bool.{Bool, true}
 use mathlib.Core.Path.{_≡_, sym, ap, _∙_}

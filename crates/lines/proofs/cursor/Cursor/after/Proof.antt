@@ -1,5 +1,4 @@
 -- `lines::cursor::Cursor::after` meets its contract. The invariant: what is left of the key has to stand at the cursor.
--- Assumes nothing.
 use Prim.Native.Nat.{_-_, _≤_}
 use mathlib.Core.Path.{_≡_, refl, sym, _∙_}
 use mathlib.Core.List.{_∷_}

@@ -1,5 +1,4 @@
 -- `lines::cursor::Cursor::at_end` meets its contract.
--- Assumes nothing.
 use denote.Ref.{now}
 use Rattle.lines.specs.Places.{byteRead, empty}
 use Rattle.lines.proofs.Spellings.{read-as}

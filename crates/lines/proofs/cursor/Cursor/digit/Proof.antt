@@ -1,5 +1,4 @@
 -- `lines::cursor::Cursor::digit` meets its contract.
--- Assumes nothing.
 use mathlib.Core.Path.{_≡_, _∙_, sym}
 use mathlib.Core.List.{_∷_}
 use denote.Ref.{now}

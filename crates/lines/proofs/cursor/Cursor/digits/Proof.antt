@@ -1,6 +1,5 @@
 -- `lines::cursor::Cursor::digits` meets its contract. The invariant: so many digits more from the cursor give what was asked
 -- from the start, and a number of so many digits is below that power of ten.
--- Assumes nothing.
 use Prim.Native.Nat.{ℕ, suc, _+_, _-_, _*_, _^_, _≤_, _<_}
 use mathlib.Core.Path.{_≡_, refl, sym, ap, _∙_}
 use mathlib.Core.List.{List}

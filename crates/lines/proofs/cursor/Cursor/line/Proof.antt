@@ -1,5 +1,4 @@
 -- `lines::cursor::Cursor::line` meets its contract: the key, then the number, then the end of the line.
--- Assumes nothing.
 use mathlib.Core.Path.{_≡_}
 use mathlib.Core.Option.{some}
 use denote.Ref.{now}

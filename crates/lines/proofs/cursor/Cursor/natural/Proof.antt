@@ -1,5 +1,4 @@
 -- `lines::cursor::Cursor::natural` meets its contract.
--- Assumes nothing.
 use mathlib.Core.Path.{_≡_, sym, _∙_}
 use denote.Ref.{now}
 use Rattle.lines.specs.Places.{rest, digitRead, frontDigit, digit, spelledAt}

@@ -1,5 +1,4 @@
 -- `lines::cursor::Cursor::natural_field` meets its contract.
--- Assumes nothing.
 use mathlib.Core.Path.{sym}
 use denote.Ref.{now}
 use mir.Facts.{toZ-ofZ}

@@ -1,5 +1,4 @@
 -- `lines::cursor::Cursor::negative` meets its contract: a number above 0 has its negation, and no other is spelled so.
--- Assumes nothing.
 use Prim.Native.Nat.{ℕ, zero, suc}
 use mathlib.Core.Path.{_≡_, sym}
 use mathlib.Core.Bool.{true}

@@ -1,5 +1,4 @@
 -- `lines::cursor::Cursor::next_byte` meets its contract.
--- Assumes nothing.
 use mathlib.Core.Path.{sym}
 use native.Mathlib.Numerals.{add-one}
 use lib.ListN.{drop-of-length-le}

@@ -1,5 +1,4 @@
 -- `lines::cursor::Cursor::number` meets its contract.
--- Assumes nothing.
 use Rattle.lines.specs.Places.{spelling}
 use borrow.Author.Needs.{needs}
 use Rattle.lines.proofs.cursor.Cursor.number.Statement.{statement}

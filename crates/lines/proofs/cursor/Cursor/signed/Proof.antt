@@ -1,5 +1,4 @@
 -- `lines::cursor::Cursor::signed` meets its contract.
--- Assumes nothing.
 use mathlib.Core.Path.{_≡_, sym, _∙_}
 use mathlib.Core.List.{_∷_}
 use denote.Ref.{now}

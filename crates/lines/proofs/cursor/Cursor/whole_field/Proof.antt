@@ -1,5 +1,4 @@
 -- `lines::cursor::Cursor::whole_field` meets its contract: the line, and then its number's range.
--- Assumes nothing.
 use mathlib.Core.Path.{_≡_, sym, _∙_}
 use denote.Ref.{now}
 use mir.Facts.{toZ-ofZ}
