@@ -8,12 +8,13 @@ use native.Mathlib.Omega.{arith}
 use borrow.Author.Tests.{leb-true, le-leb}
 use lib.Dec.{leb}
 use lib.IntN.{ℤ, pos, negℤ, natAbs, _-ℤ_, _*ℤ_, pow, one}
-use lib.ListN.{length, getD}
+use lib.ListN.{length, getD, replicate}
 use Rattle.ranges.specs.Range.{every}
 use Rattle.model.specs.Sheet.{scale, termsOf, startsOf, quantitiesHeld, termsHeld}
 use Rattle.model.specs.Step.{no-ball, Row, no-row}
 use Rattle.model.specs.Cases.Sheets.{reading, term, given, A-terms, A-given}
 use Rattle.model.specs.declared.Ball.{Ball}
+use Rattle.model.specs.declared.Quantity.{Quantity}
 use Rattle.model.specs.declared.Sheet.{Sheet}
 use Rattle.model.specs.declared.Term.{Term}
 use Rattle.model.proofs.Definitions.{every-definition}
@@ -104,11 +105,11 @@ ratio-of-a-forecast-alone = distrusted _ _ whole (1 ∷ []) 0 0 (lies _ _ (omega
 
 -- ---- rows from a start with a radius
 
--- one quantity from 0 within a radius, with a step and a term
-abbrev about-zero : ℤ → ℕ → Term → Sheet
-about-zero step radius t =
+-- one quantity from 0 within a radius, with a step, a tail and a term
+abbrev about-zero : ℤ → ℕ → ℕ → Term → Sheet
+about-zero step tail radius t =
     record {
-      head = record { n = 1; steps = 1; step = step; tail = 16777216; tol = 536870912 };
+      head = record { n = 1; steps = 1; step = step; tail = tail; tol = 536870912 };
       quantities = quantitiesHeld (reading 0 radius ∷ []);
       terms = termsHeld 1 (t ∷ []);
     }
@@ -117,12 +118,12 @@ about-zero step radius t =
 two-wholes : State
 two-wholes = record { denominator = 1; numerators = pos 2 ∷ [] }
 
-pub greatest-from-values-alone : TrustedOf (about-zero (pos 2097152) 33554432 (term 1 (pos 16777216) 1 1)) (row-of 0 (pos 0) 35951178 ∷ []) → ⊥
+pub greatest-from-values-alone : TrustedOf (about-zero (pos 2097152) 16777216 33554432 (term 1 (pos 16777216) 1 1)) (row-of 0 (pos 0) 35951178 ∷ []) → ⊥
 unfolding every-exact inside high-enough two-wholes
 greatest-from-values-alone = distrusted _ _ two-wholes (1 ∷ []) 0 0 (lies _ _ (omega arith) refl refl) (no-lower _ _ refl refl) (omega arith) (omega arith) refl
 
 -- radii of coefficients that do not follow a step back: x' = -x from 0 within one whole, over a quarter back, grows by a quarter, and e_1 is 3
-pub radii-of-a-forecast-alone : TrustedOf (about-zero (negℤ (pos 4194304)) 16777216 (term 1 (negℤ (pos 16777216)) 1 0)) (row-of 1 (pos 0) 18175321 ∷ []) → ⊥
+pub radii-of-a-forecast-alone : TrustedOf (about-zero (negℤ (pos 4194304)) 1398102 16777216 (term 1 (negℤ (pos 16777216)) 1 0)) (row-of 1 (pos 0) 18175321 ∷ []) → ⊥
 unfolding every-exact inside high-enough whole
 radii-of-a-forecast-alone = distrusted _ _ whole (1 ∷ []) 0 0 (lies _ _ (omega arith) refl refl) (no-lower _ _ refl refl) (omega arith) (omega arith) refl
 
@@ -136,27 +137,30 @@ next-step-from-radius-0 = distrusted _ _ five-units (0 ∷ 0 ∷ []) 1 0 (lies _
 
 -- ---- a radius without its 1
 
--- 0.49 wholes in the rate of the first quantity
-abbrev part : ℕ → ℕ → Term
-part first second = term 1 (pos 8220835) first second
+-- one whole, and 0.49 wholes in the rate of the first quantity
+abbrev start-whole : Quantity
+start-whole = reading 16777216 0
 
--- three quantities of one whole, over a step of one unit, and ten unlike terms
-abbrev ten-terms : Sheet
-ten-terms =
+abbrev part : ℕ → Term
+part first = term 1 (pos 8220835) first 0
+
+-- six quantities of one whole, over a step of one unit, and seven unlike terms
+abbrev seven-terms : Sheet
+seven-terms =
     record {
-      head = record { n = 3; steps = 1; step = pos 1; tail = 2; tol = 7 };
-      quantities = quantitiesHeld (reading 16777216 0 ∷ reading 16777216 0 ∷ reading 16777216 0 ∷ []);
-      terms = termsHeld 10 (part 0 0 ∷ part 1 0 ∷ part 2 0 ∷ part 3 0 ∷ part 1 1 ∷ part 1 2 ∷ part 1 3 ∷ part 2 2 ∷ part 2 3 ∷ part 3 3 ∷ []);
+      head = record { n = 6; steps = 1; step = pos 1; tail = 2; tol = 7 };
+      quantities = quantitiesHeld (replicate 6 start-whole);
+      terms = termsHeld 7 (part 0 ∷ part 1 ∷ part 2 ∷ part 3 ∷ part 4 ∷ part 5 ∷ part 6 ∷ []);
     }
 
-wholes : State
-wholes = record { denominator = 1; numerators = pos 1 ∷ pos 1 ∷ pos 1 ∷ [] }
+six-wholes : State
+six-wholes = record { denominator = 1; numerators = replicate 6 (pos 1) }
 
 -- one whole within 3 units
 abbrev about-one : Ball
 about-one = record { value = pos 16777216; radius = 3 }
 
--- f and g without their 1: each of the ten brings 0.49 units that are rounded to 0, and the radius is 1 and the tail
-pub without-its-one : TrustedOf ten-terms (record { degree = 1; balls = about-one ∷ about-one ∷ about-one ∷ []; spans = [] } ∷ []) → ⊥
-unfolding every-exact inside high-enough wholes
-without-its-one = distrusted _ _ wholes (1 ∷ []) 0 0 (lies _ _ (omega arith) refl refl) (no-lower _ _ refl refl) (omega arith) (omega arith) refl
+-- f and g without their 1: each of the seven brings 0.49 units that are rounded to 0, and the radius is 1 and the tail
+pub without-its-one : TrustedOf seven-terms (record { degree = 1; balls = replicate 6 about-one; spans = [] } ∷ []) → ⊥
+unfolding every-exact inside high-enough six-wholes
+without-its-one = distrusted _ _ six-wholes (1 ∷ []) 0 0 (lies _ _ (omega arith) refl refl) (no-lower _ _ refl refl) (omega arith) (omega arith) refl

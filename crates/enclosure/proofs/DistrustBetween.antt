@@ -35,7 +35,7 @@ unfolding every-exact inside SpannedOf Spanned startOf row-between whole
 degree-alone h = h 0 (omega arith) whole (lies _ _ (omega arith) refl refl) 1 1 (omega arith) (omega arith) 3 (omega arith) .below 0 (omega arith) .le
 
 -- the reach without order 1
-pub without-order-1 : SpannedOf (case-A (pos 4194304)) (row-between (pos 15379106) (pos 18175326)) → ⊥
+pub without-order-1 : SpannedOf (case-A (pos 4194304)) (row-between (pos 15379110) (pos 18175322)) → ⊥
 unfolding every-exact inside SpannedOf Spanned startOf row-between whole
 without-order-1 h = h 0 (omega arith) whole (lies _ _ (omega arith) refl refl) 1 1 (omega arith) (omega arith) 2 (omega arith) .below 0 (omega arith) .le
 
