@@ -1,7 +1,7 @@
 -- What a worked case is: what the definitions come to, and what they should come to. The tables of the chapters are lists of such.
 use Prim.Native.Nat.{ℕ}
 use Prim.Native.Char.{code}
-use Prim.Native.String.{String}
+use Prim.Native.String.{String, _++_ as _&_}
 use mathlib.Core.Bool.{Bool, true, false}
 use mathlib.Core.List.{List, [], _∷_, map}
 use mathlib.Core.Path.{_≡_}
@@ -63,6 +63,10 @@ Hold cases = map (λ case. case .0) cases ≡ map (λ case. case .1) cases
 -- a sheet prints an answer
 abbrev pub prints : String → String → Case
 prints sheet printed = (text (answer (bytes sheet)), text (bytes printed))
+
+-- a sheet is refused by this number, before step 1
+abbrev pub fails : String → String → Case
+fails sheet number = prints sheet ("result=" & number & "\nat=0\n")
 
 -- the first of its rows, alone, or none
 unfoldable pub firstRow : String → List Row

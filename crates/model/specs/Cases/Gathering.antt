@@ -5,7 +5,7 @@ use lib.IntN.{pos, negℤ}
 use Rattle.model.specs.Cases.Forms.{Case, prints, reads, gathers}
 use Rattle.model.specs.Cases.Sheets.{sheetLines, termLines, squares, A, A-answer, wholes, term}
 
--- the table
+-- sheets with like terms with their answers, and terms with what they are gathered into
 unfoldable pub gathering : List Case
 gathering =
     -- like terms: two that cancel wholly; two that nearly do, of which the first alone is refused; all are added before any drops out; a lone 0; the

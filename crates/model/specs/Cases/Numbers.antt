@@ -3,7 +3,7 @@ use mathlib.Core.List.{List, [], _∷_}
 use lib.IntN.{pos, negℤ}
 use Rattle.model.specs.Cases.Forms.{Case, shows, plain, minus, neither}
 
--- the table
+-- numbers with their texts, and texts with what they spell
 unfoldable pub numbers : List Case
 numbers =
     -- as they are printed: the ends of each number of digits, and the largest value and the largest low or high of a row, either way

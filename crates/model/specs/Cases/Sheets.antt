@@ -38,10 +38,19 @@ unfoldable pub squares : List String → String
 squares [] = ""
 squares (coef ∷ coefs) = termLines "1" coef "1" "1" & squares coefs
 
--- sounding A with these terms, and its answer with its own, x' = x × x
+-- sounding A with these terms
 abbrev pub A : String → String
 A terms = sheetLines "1" "4194304" "349526" "349534" "16777216" "0" terms
 
+-- with its own, x' = x × x, and another step
+abbrev pub A-by : String → String
+A-by step = sheetLines "1" step "349526" "349534" "16777216" "0" square
+
+-- with its own, and another start and radius
+abbrev pub A-from : String → String → String
+A-from start radius = sheetLines "1" "4194304" "349526" "349534" start radius square
+
+-- its answer
 abbrev pub A-answer : String
 A-answer = "row=1\ndegree=2\nvalue=22020096\nradius=349534\nlow=11184802\nhigh=22369630\nresult=0\nat=0\n"
 

@@ -2,9 +2,9 @@
 use mathlib.Core.List.{List, [], _∷_}
 use lib.IntN.{pos, negsuc}
 use Rattle.model.specs.Cases.Forms.{Case, prints, opensAt, opens, ends, lent, nearIs, upIs}
-use Rattle.model.specs.Cases.Sheets.{sheetLines, none, one, square, A, A-answer}
+use Rattle.model.specs.Cases.Sheets.{sheetLines, none, one, square, A, A-answer, A-by}
 
--- the table
+-- A to J, in document 01's order
 unfoldable pub soundings : List Case
 soundings =
     -- A
@@ -14,8 +14,8 @@ soundings =
     -- C
     ∷ prints (sheetLines "1" "4194304" "349526" "349533" "16777216" "0" square) "result=8\nat=1\n"
     -- D
-    ∷ opensAt (sheetLines "1" "8388608" "349526" "349534" "16777216" "0" square) 6
-    ∷ ends (sheetLines "1" "8388609" "349526" "349534" "16777216" "0" square) 7 1
+    ∷ opensAt (A-by "8388608") 6
+    ∷ ends (A-by "8388609") 7 1
     -- E
     ∷ opens (sheetLines "1" "8388608" "2" "49" "0" "0" (one "0" "0")) 23 (pos 8388608) 49
     -- F

@@ -4,7 +4,7 @@ use mathlib.Core.List.{List, [], _∷_}
 use lib.IntN.{ℤ, pos, negℤ}
 use lib.ListN.{replicate}
 use Rattle.model.specs.Cases.Forms.{Case, prints, opensAt, opens, ends, leaves, steps}
-use Rattle.model.specs.Cases.Sheets.{sheetLines, termLines, one, square, two, term, A-terms, A-given}
+use Rattle.model.specs.Cases.Sheets.{sheetLines, termLines, one, square, two, term, A-terms, A-given, A-by}
 use Rattle.model.specs.Step.{Ball, Row}
 use Rattle.model.specs.Passage.{moves, stops}
 use Rattle.model.specs.declared.Refusal.the-variants.{OutOfRange, TooLarge, Intolerable}
@@ -18,13 +18,13 @@ abbrev pub A-row : ℤ → Row
 A-row value =
     record { degree = 2; balls = record { value = value; radius = 349534 } ∷ []; spans = record { low = pos 11184802; high = pos 22369630 } ∷ [] }
 
--- the table
+-- steps with what they come to
 unfoldable pub steps-taken : List Case
 steps-taken =
     -- A, D, E and a term of one factor with the step back, and two quantities over two steps: Q alone keeps the step's sign, every size has |H|
-    prints (sheetLines "1" "-4194304" "349526" "349534" "16777216" "0" square) "row=1\ndegree=2\nvalue=13631488\nradius=349534\nlow=11184802\nhigh=22369630\nresult=0\nat=0\n"
-    ∷ opensAt (sheetLines "1" "-8388608" "349526" "349534" "16777216" "0" square) 6
-    ∷ ends (sheetLines "1" "-8388609" "349526" "349534" "16777216" "0" square) 7 1
+    prints (A-by "-4194304") "row=1\ndegree=2\nvalue=13631488\nradius=349534\nlow=11184802\nhigh=22369630\nresult=0\nat=0\n"
+    ∷ opensAt (A-by "-8388608") 6
+    ∷ ends (A-by "-8388609") 7 1
     ∷ opens (sheetLines "1" "-8388608" "2" "49" "0" "0" (one "0" "0")) 23 (negℤ (pos 8388608)) 49
     ∷ opens (sheetLines "1" "-8388608" "2" "51" "16777216" "0" (one "1" "0")) 23 (pos 10175897) 51
     ∷ prints (two "-4194304" "536870912") "row=1\ndegree=3\nvalue=14406997\nradius=87396\nlow=14319601\nhigh=19234831\nvalue=10594987\nradius=87400\nlow=6051139\nhigh=10726077\nrow=2\ndegree=2\nvalue=11473932\nradius=462862\nlow=11011070\nhigh=17802924\nvalue=12904591\nradius=478082\nlow=7807301\nhigh=13382673\nresult=0\nat=0\n"

@@ -5,7 +5,7 @@ use Rattle.model.specs.Cases.Forms.{Case, judged, spans}
 use Rattle.model.specs.Cases.Sheets.{reading, missing, given}
 use Rattle.model.specs.Sheet.{most-steps, stored-steps, within, n-limits, steps-limits, stepWithin, tail-limits, tol-limits, start-limits, radius-limits, terms-limits, to-limits, coef-limits, first-limits, second-limits}
 
--- the table
+-- ranges with their ends, and sheets as numbers with their refusal
 unfoldable pub verdicts : List Case
 verdicts =
     -- the range of each field
