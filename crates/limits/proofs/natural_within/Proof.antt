@@ -1,7 +1,7 @@
 -- `limits::natural_within` meets its contract: a number past the largest i64 is above every limit.
 use Prim.Native.Nat.{ℕ, _-_, _<_, _^_}
-use mathlib.Core.Path.{_≡_, refl}
-use mathlib.Core.Bool.{Bool, true, false, _&&_}
+use mathlib.Core.Path.{_≡_, refl, sym}
+use mathlib.Core.Bool.{false, and-false}
 use native.Mathlib.Omega.{arith}
 use borrow.Author.Tests.{lt-leb}
 use lib.IntN.{ℤ, pos, negsuc}
@@ -18,13 +18,9 @@ above-high : (high : ℤ) {m : ℕ} → mag high < 2 ^ 63 → 2 ^ 63 - 1 < m →
 above-high (pos h) fits above = lt-leb _ h (omega arith)
 above-high (negsuc h) fits above = refl
 
-and-false : (b : Bool) → false ≡ (b && false)
-and-false true = refl
-and-false false = refl
-
 beyond : (limits : Limits) {m : ℕ} → mag (limits .high) < 2 ^ 63 → 2 ^ 63 - 1 < m → false ≡ within limits (pos m)
 unfolding within
-beyond limits {m} fits above = rw (above-high (limits .high) fits above) (and-false (leZ (limits .low) (pos m)))
+beyond limits {m} fits above = rw (above-high (limits .high) fits above) (sym (and-false (leZ (limits .low) (pos m))))
 
 returns : tie.Need-returns
 returns c = rw (toZ-pos w64 {n = c .before .before .args .m} (omega arith)) at (c .within .ensures)
