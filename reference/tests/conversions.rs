@@ -3,11 +3,11 @@
 //! planner is linked, it is held to every case too.
 
 use reference::compare::{Converted, both_converted};
-use reference::convert::Conversion;
+use reference::conversion::Conversion;
+use reference::generate::conversion::StoredTrial;
 use reference::passage::{Refused, carry};
 use reference::rows::{self, Parts};
 use reference::sheet::{MOST_PLACES, Refusal, Sheet, Start, read, read_stored, start, term, text};
-use reference::stored::StoredTrial;
 
 const MARK: i64 = i64::MIN;
 const WHOLE: i64 = 1 << 24;

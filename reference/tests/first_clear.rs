@@ -3,9 +3,10 @@
 
 use reference::clearance::FirstClear::{NoRow, Refused, Row};
 use reference::clearance::{FirstClear, Query, is_certain, least_clearance_at_end};
-use reference::compare::{LINKED, both_first_clear};
+use reference::compare::both_first_clear;
+use reference::generate::clearance::QueryTrial;
+use reference::library::LINKED;
 use reference::passage;
-use reference::queries::QueryTrial;
 use reference::rounding::SCALE;
 use reference::rows;
 use reference::sheet::Refusal::{self, BufferTooShort, OutOfRange, QueryOutOfRange, RowOutOfRange};

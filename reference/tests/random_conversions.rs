@@ -3,10 +3,10 @@
 //! by row, what its passage has when all of its steps are taken at once, and the same outcome.
 
 use reference::compare::{Converted, both_converted};
-use reference::convert::{Conversion, FIRST_STEPS};
+use reference::conversion::{Conversion, FIRST_STEPS};
+use reference::generate::conversion::{StoredTrial, StoredTrials, places_needed};
 use reference::passage::{Refused, carry, run};
 use reference::sheet::{Refusal, Sheet, read, read_stored};
-use reference::stored::{StoredTrial, StoredTrials, places_needed};
 use std::collections::BTreeMap;
 
 const COUNT: usize = 27_000;

@@ -5,8 +5,8 @@ use reference::clearance::{
     least_clearance_at_end,
 };
 use reference::compare::ClearTally;
+use reference::generate::clearance::{QueryTrial, QueryTrials};
 use reference::generate::{at_the_limit_from_the_start, of_long_numbers, written};
-use reference::queries::{QueryTrial, QueryTrials};
 use reference::random::Random;
 use reference::rounding::SCALE;
 use reference::rows::{self, Parts};

@@ -1,11 +1,11 @@
 //! Random stored sheets from a seed, for the conversion: long ones that are split, long ones steered to each question on
 //! either side of the first part's end, short ones, and damaged ones. Half of the steps go back.
 
-use crate::convert::FIRST_STEPS;
-use crate::generate::{
+use super::{
     anywhere, at_the_limit_from_the_start, at_the_ratio as at_the_first_ratio, calm, calm_of,
     damage, direction, lengthen, longest_step, scale, written,
 };
+use crate::conversion::FIRST_STEPS;
 use crate::random::Random;
 use crate::rounding::SCALE;
 use crate::rows;
