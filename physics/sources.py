@@ -7,7 +7,6 @@ its radius.
 import sys
 from collections import namedtuple
 from math import exp, factorial
-from pathlib import Path
 
 from physics import FLOATING_POINT_ERROR, SCALE, Gallery, numbers
 
@@ -99,8 +98,8 @@ def line(cells):
 class Compared:
     """A figure of a source, and the row of its sheet's answer that it is compared with."""
 
-    def __init__(self, folder, figure):
-        self.figure, self.gallery = figure, Gallery(folder, figure.sheet)
+    def __init__(self, figure):
+        self.figure, self.gallery = figure, Gallery(figure.sheet)
         self.degrees = numbers(self.gallery.answer, "degree")[: figure.row]
         self.row = len(self.degrees)
         self.radius = self.gallery.rows("radius")[self.row - 1][QUANTITY - 1]
@@ -128,8 +127,7 @@ class Compared:
 
 
 def main():
-    folder = Path(__file__).parent
-    compared = [Compared(folder, figure) for figure in FIGURES]
+    compared = [Compared(figure) for figure in FIGURES]
     print(line(HEAD))
     print(line(["---"] * 5 + ["---:"] * 4 + ["---"]))
     for comparison in compared:
