@@ -9,8 +9,8 @@ from pathlib import Path
 
 import description
 import programs
+from samples import TIDE, edited
 from units import UNITS
-from test_description import TIDE, edited
 
 COMMAND = programs.ROOT / "companion" / "passage"
 PAGE = programs.ROOT / "docs" / "PILOT.md"
@@ -262,8 +262,8 @@ class Pages(unittest.TestCase):
         for name in UNITS.keys() - {"1"}:
             self.assertRegex(text, rf"\b{name}\b")
         for path in COMMAND.parent.iterdir():
-            if path.name not in ("README.md", "__pycache__") and not path.name.startswith("test_"):
-                self.assertIn(f"`{path.name}`", text)
+            if path.name not in ("README.md", "__pycache__"):
+                self.assertIn(f"`{path.name}{'/' * path.is_dir()}`", text)
 
     def test_the_front_page_shows_what_is_printed(self):
         done = subprocess.run(
@@ -292,7 +292,3 @@ class Pages(unittest.TestCase):
                         )
                         tried += 1
         self.assertEqual(tried, 11)
-
-
-if __name__ == "__main__":
-    unittest.main()

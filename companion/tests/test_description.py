@@ -6,63 +6,10 @@ from fractions import Fraction
 import description
 import rates
 from entries import Lines, Refused
+from samples import TIDE, edited
 from units import PI, at_least, decimal, measure, near, shown, unit
 
-TIDE = """\
-title = "a tide"
-
-[time]
-unit = "h"
-begin = 08:00:00
-step = "10 min"
-length = "1 h"
-
-[accuracy]
-tail = 10
-
-[constants]
-m2 = "28.9841042 deg/h"
-
-[quantity.rise]
-unit = "m"
-start = -1.8
-good_to = 0
-rate = "m2 * fall"
-
-[quantity.fall]
-unit = "m"
-start = 0
-good_to = 0
-rate = "-m2 * rise"
-
-[quantity.water]
-about = "over the sill"
-unit = "m"
-start = 1.60
-good_to = "4 cm"
-tolerance = "5 cm"
-rate = '''
-m2 * fall
-'''
-
-[clearance]
-weights = { water = 1, rise = -0.5 }
-unit = "m"
-base = -1
-need = 0.5
-for = "25 min"
-"""
-
-
 KNOTS = '[quantity.rush]\nunit = "kn"\nstart = 1\ngood_to = 0\nrate = "0"\n'
-
-
-def edited(*edits):
-    text = TIDE
-    for old, new in edits:
-        assert text.count(old) == 1, old
-        text = text.replace(old, new)
-    return text
 
 
 def refusal(*edits):
@@ -342,7 +289,3 @@ class EntryLines(unittest.TestCase):
         self.assertEqual(lines.line("e", "f", "z"), 6)
         self.assertEqual(Lines("b.c = 3\nb.d = 4\n[e]\n[e.f]\n").found[("b",)], (1, 1))
         self.assertIsNone(lines.line("z"))
-
-
-if __name__ == "__main__":
-    unittest.main()

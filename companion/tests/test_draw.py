@@ -11,11 +11,9 @@ from xml.etree import ElementTree
 
 import draw
 import programs
-from plan import Search
-from test_gallery import planned
-from test_show import ANSWER, plan_of
-from test_description import TIDE, edited
 from answer import parsed
+from plan import Search
+from samples import ANSWER, TIDE, edited, plan_of, planned
 
 
 def pixels(png):
@@ -224,7 +222,3 @@ class Drawn(unittest.TestCase):
 
 def unnamed(svg):
     return [line for line in svg.splitlines() if not line.startswith("<desc>Produced by GNUPLOT")]
-
-
-if __name__ == "__main__":
-    unittest.main()

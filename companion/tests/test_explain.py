@@ -8,11 +8,10 @@ import description
 import explain
 import programs
 from answer import Answer
+from samples import SHEETS, edited
 from sheet import Writer
-from test_description import edited
 
 CASES = programs.ROOT / "cases"
-SHEETS = programs.ROOT / "sheets"
 
 # A sheet of cases/, and what its explanation must say.
 TOLD = {
@@ -174,7 +173,3 @@ class Disagreement(unittest.TestCase):
         with mock.patch.object(programs, "plan", lambda _: Answer((), 8, 1)):
             with self.assertRaises(explain.Differ):
                 explain.words((SHEETS / "square.sheet").read_bytes())
-
-
-if __name__ == "__main__":
-    unittest.main()

@@ -6,7 +6,6 @@ import subprocess
 import tempfile
 import unittest
 from fractions import Fraction
-from functools import cache
 from pathlib import Path
 from unittest import mock
 
@@ -15,22 +14,11 @@ import programs
 from answer import parsed as parsed_answer
 from plan import plan, search
 from query import Query, exact_weights, query
+from samples import SHEETS, edited, planned, read
 from sheet import Writer, differences, parsed
-from test_description import edited
 from units import SCALE
 
-SHEETS = programs.ROOT / "sheets"
 NAMES = sorted(path.stem for path in SHEETS.glob("*.sheet"))
-
-
-@cache
-def read(name):
-    return description.read((SHEETS / f"{name}.toml").read_text())
-
-
-@cache
-def planned(name):
-    return plan(read(name))
 
 
 def stored_answer(name):
@@ -235,7 +223,3 @@ class Programs(unittest.TestCase):
     def test_a_status_that_is_not_expected_fails(self):
         with self.assertRaises(programs.Failed):
             programs.second("read", b"n=0\n")
-
-
-if __name__ == "__main__":
-    unittest.main()

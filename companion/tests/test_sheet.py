@@ -7,8 +7,8 @@ from fractions import Fraction
 
 import description
 from entries import Refused
+from samples import TIDE, edited
 from sheet import Sheet, Start, Term, Writer, differences, parsed
-from test_description import TIDE, edited
 from units import SCALE, near
 
 PLAIN = """\
@@ -264,7 +264,3 @@ class RandomDescriptions(unittest.TestCase):
             value = getattr(sheet, field.name)
             other = value[:-1] if isinstance(value, tuple) else value + 1
             self.assertNotEqual(differences(read, replace(sheet, **{field.name: other})), [], field.name)
-
-
-if __name__ == "__main__":
-    unittest.main()

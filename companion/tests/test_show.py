@@ -11,37 +11,11 @@ import description
 import show
 from answer import Answer, Part, Row, parsed
 from clock import Clock, length
-from plan import Plan, Search
+from plan import Search
 from refusals import ADVICE, MEANING
-from sheet import Writer
-from subject import Cell, all_subjects, chosen
-from test_description import TIDE, edited
+from samples import ANSWER, TIDE, edited, plan_of
+from subject import Cell, chosen
 from units import SCALE
-
-ANSWER = """\
-row=1
-degree=2
-value=-16777216
-radius=1
-low=-16777217
-high=16777217
-value=0
-radius=0
-low=0
-high=0
-value=33554432
-radius=838860
-low=30000000
-high=36000000
-result=8
-at=2
-"""
-
-
-def plan_of(text, answer):
-    read = description.read(text)
-    sheet = Writer(read).sheet()
-    return Plan(read, sheet, answer, Clock(read.time), tuple(all_subjects(read, sheet, answer)))
 
 
 def clock(**changed):
@@ -245,7 +219,3 @@ class Long(unittest.TestCase):
         self.assertEqual(
             row.split(), ["1", "08:10", "28", "-64.000", "32.000", "-96.000", "-32.000", "-128.000", "128.000"]
         )
-
-
-if __name__ == "__main__":
-    unittest.main()
