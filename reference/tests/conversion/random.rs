@@ -8,6 +8,8 @@ use reference::generate::conversion::{StoredTrial, StoredTrials, places_needed};
 use reference::passage::{Refused, carry, run};
 use reference::sheet::{Refusal, Sheet, read, read_stored};
 use std::collections::BTreeMap;
+use std::sync::mpsc;
+use std::thread;
 
 const COUNT: usize = 27_000;
 const LEAST: usize = 200;
@@ -235,10 +237,20 @@ fn is_hindcast(sheet: &[u8]) -> bool {
     lines.any(|line| line.starts_with(b"step=-"))
 }
 
+/// The same trials, made on a thread of their own while earlier ones are looked at: that takes about as long.
+fn ahead(
+    trials: impl Iterator<Item = StoredTrial> + Send + 'static,
+) -> mpsc::IntoIter<StoredTrial> {
+    let (sender, receiver) = mpsc::sync_channel(100);
+    // Where a trial is not as it should be, nobody receives the others.
+    thread::spawn(move || trials.map_while(|trial| sender.send(trial).ok()).count());
+    receiver.into_iter()
+}
+
 #[test]
 fn every_kind_of_conversion_and_every_edge_is_met_by_hundreds_of_each_direction() {
     let (mut forecasts, mut hindcasts) = (Met::default(), Met::default());
-    for (trial, mark) in StoredTrials::from_seed(1).take(COUNT).zip(1_i64..) {
+    for (trial, mark) in ahead(StoredTrials::from_seed(1).take(COUNT)).zip(1_i64..) {
         let met = if is_hindcast(&trial.sheet) {
             &mut hindcasts
         } else {
