@@ -5,6 +5,7 @@ import subprocess
 import tempfile
 import unittest
 import zlib
+from collections import Counter
 from fractions import Fraction
 from pathlib import Path
 from xml.etree import ElementTree
@@ -32,25 +33,39 @@ def pixels(png):
 
 
 def colours(raw, width, height, channels):
-    stride, found, last = width * channels, {}, bytes(width * channels)
-    for row in range(height):
-        kind, line = raw[row * (stride + 1)], bytearray(raw[row * (stride + 1) + 1 : (row + 1) * (stride + 1)])
-        for place in range(stride):
-            left = line[place - channels] if place >= channels else 0
-            corner = last[place - channels] if place >= channels else 0
-            line[place] = (
-                line[place] + (0, left, last[place], (left + last[place]) // 2, paeth(left, last[place], corner))[kind]
-            ) & 255
-        for place in range(0, stride, channels):
-            colour = bytes(line[place : place + 3])
-            found[colour] = found.get(colour, 0) + 1
-        last = bytes(line)
+    stride, found, last = width * channels, Counter(), bytes(width * channels)
+    for place in range(0, height * (stride + 1), stride + 1):
+        last = unfiltered(raw[place], raw[place + 1 : place + 1 + stride], last, channels)
+        found.update(last[each : each + 3] for each in range(0, stride, channels))
     return found
 
 
+def unfiltered(kind, line, above, channels):
+    """A line of a PNG as it was before it was filtered by what lies to its left, above it, or both."""
+    if kind == 0:
+        return line
+    if kind == 2:
+        return bytes((each + up) & 255 for each, up in zip(line, above))
+    done = bytearray(channels)  # What lies to the left of the first ones is 0.
+    corners = bytes(channels) + above
+    if kind == 1:
+        for each in line:
+            done.append((each + done[-channels]) & 255)
+    elif kind == 3:
+        for each, up in zip(line, above):
+            done.append((each + (done[-channels] + up) // 2) & 255)
+    else:
+        for each, up, corner in zip(line, above, corners):
+            done.append((each + paeth(done[-channels], up, corner)) & 255)
+    return bytes(done[channels:])
+
+
 def paeth(left, above, corner):
-    guess = left + above - corner
-    return min((left, above, corner), key=lambda each: abs(guess - each))
+    """The one of the three that is nearest to left + above - corner, the first of equals."""
+    by_left, by_above, by_corner = abs(above - corner), abs(left - corner), abs(left + above - 2 * corner)
+    if by_left <= by_above and by_left <= by_corner:
+        return left
+    return above if by_above <= by_corner else corner
 
 
 def rgb(text):
