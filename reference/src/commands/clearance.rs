@@ -1,4 +1,4 @@
-//! The clearance: random rows and queries through both programs.
+//! The clearance: random rows and queries through both programs, and what is printed where they differ.
 
 use super::{Command, numbers, through};
 use reference::compare::{ClearTally, both_first_clear};

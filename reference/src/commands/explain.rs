@@ -1,4 +1,4 @@
-//! A sheet from standard input as it is read, and why it or its passage is refused.
+//! What is made of a sheet from standard input: the sheet as it is read, and why it or its passage is refused.
 
 use super::{Command, sheet_given};
 use reference::explain::explanation;

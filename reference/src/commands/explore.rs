@@ -1,4 +1,5 @@
-//! A long search: sheets that ended in a new way are altered, and stored sheets are converted, both through both programs.
+//! A long search: sheets that ended in a new way are altered, and as many stored sheets are converted, both through both
+//! programs, until the time is up or they differ.
 
 use super::{Command, answer, conversion, numbers};
 use reference::compare::{ConversionTally, Tally, both, both_converted};

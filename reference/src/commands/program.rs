@@ -1,4 +1,5 @@
-//! Random sheets through a program file, which reads one from standard input and prints what is expected of it.
+//! Random sheets through a program file, which reads one from standard input, prints what is expected of it, and says
+//! nothing on standard error.
 
 use std::io::{self, Write};
 use std::process::{Command, ExitCode, Output, Stdio};

@@ -1,4 +1,5 @@
-//! Both programs' times: on sheets, on the longest searches, and as a sheet's steps, terms and degree vary.
+//! Both programs' times, side by side: on sheets, on the longest searches, and as a sheet's steps, terms and degree vary,
+//! one at a time.
 
 use super::{Command, answer, clearance};
 use reference::compare::{Ending, both, both_first_clear};

@@ -1,4 +1,5 @@
-//! The clearance: the same rows and query to both programs, then the answers compared.
+//! The clearance: the same rows and query to both programs, then the answers compared; and how many queries had each kind
+//! of answer.
 
 use crate::clearance::FirstClear;
 use crate::generate::clearance::QueryTrial;

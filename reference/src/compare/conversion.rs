@@ -1,4 +1,5 @@
-//! The conversion: the same stored sheet to both programs, and the texts and the rows of its first part compared.
+//! The conversion: the same stored sheet to both programs, and the texts and the rows of its first part compared; and how
+//! many stored sheets became what.
 
 use super::{Lent, byte_mark};
 use crate::conversion::{self, Conversion};

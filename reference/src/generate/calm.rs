@@ -1,4 +1,5 @@
-//! Sheets over the whole range of every field, and calm ones, which go some way.
+//! Sheets over the whole range of every field, and calm ones, whose first step's ratio is at most one half, so that they
+//! go some way.
 
 use super::steering::{longest_step, scale};
 use crate::random::Random;

@@ -1,4 +1,5 @@
-//! Sheets whose terms repeat, swap their factors, cancel wholly or nearly, or come to more than a coefficient may.
+//! Sheets whose terms repeat, swap their factors, cancel wholly or nearly, or come to more than a coefficient may be. Their
+//! steps are about as long as the gathered terms allow.
 
 use super::calm::{calm, term};
 use super::steering::{longest_step, scale};

@@ -1,4 +1,5 @@
-//! What a sheet is steered with: the scale and the longest step of a first step, and the rows that its passage writes.
+//! What a sheet is steered with: the scale of its first step and the longest step that fits, and the rows that its passage
+//! writes.
 
 use crate::passage;
 use crate::rounding::SCALE_SIZE;

@@ -1,4 +1,5 @@
-//! From a sheet to its answer, and to its rows without a text.
+//! From a sheet to its answer, by `planner_answer`, and to its rows without a text, by `planner_run`; and the bytes that
+//! an answer needs.
 
 use super::header;
 use crate::answer::Summary;

@@ -1,4 +1,4 @@
-//! From rows and a query to the first clear run.
+//! From rows and a query to the first clear run, by `planner_first_clear`, and that its most rows are this program's.
 
 use super::header;
 use crate::clearance::COUNT;

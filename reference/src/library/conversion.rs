@@ -1,4 +1,5 @@
-//! From a stored sheet to its conversion.
+//! From a stored sheet to its conversion, by `planner_convert`; the bytes that a conversion needs, and that the most
+//! steps are this program's.
 
 use super::header;
 use crate::sheet::STORED_STEPS;

@@ -1,4 +1,5 @@
-//! The first fault of a sheet that is not read, and the refusals by their numbers.
+//! The first fault of a sheet that is not read, with its line, and the refusals of all services by the documents'
+//! numbers.
 
 /// Why a sheet, a passage or a query is refused, by the documents' numbers.
 #[derive(Clone, Copy, Debug, PartialEq, Eq)]

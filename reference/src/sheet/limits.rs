@@ -1,4 +1,5 @@
-//! The range of each field of a sheet, and whether a number is in it.
+//! The range of each field of a sheet, and whether a number is in it; the most bytes and quantities that a sheet may have,
+//! and the places that its rows need at most.
 
 use super::faults::Why;
 use crate::rows;

@@ -1,4 +1,5 @@
-//! A sheet as text.
+//! A sheet as text, line by line in the order in which it is read: of a sheet that was read, the very bytes that it was
+//! read from.
 
 use super::Sheet;
 use std::fmt::Write;

@@ -1,4 +1,5 @@
-//! Reading a sheet line by line, from the top, up to its first fault.
+//! Reading a sheet line by line, from the top, up to its first fault: the key, the line feed, the spelling of the number,
+//! then its range.
 
 use super::faults::{END_KEY, Fault, Group, LineFault, Refusal, Why};
 use super::limits::{

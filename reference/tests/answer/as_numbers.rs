@@ -1,4 +1,5 @@
-//! A passage given as numbers has the ranges and the questions of a sheet, in its order.
+//! A passage given as numbers has the ranges and the questions of a sheet, in the order of its fields; where it is refused
+//! by them, no place of the buffer is written.
 
 use super::{CASE_A, MARK};
 use reference::passage::{Refused, run};

@@ -1,4 +1,5 @@
-//! Like terms at worked cases: those that add up to case A's, those that cancel, and whose range is asked.
+//! Like terms at worked cases: those that add up to case A's, those that cancel wholly, and that the range is asked of the
+//! terms as read.
 
 use super::{CASE_A, answer_a, answer_of, one_row, refused};
 use reference::sheet::read;

@@ -1,4 +1,5 @@
-//! The answers: document 01's cases, its passages given as numbers, like terms, and random sheets.
+//! The answers: document 01's cases, its passages given as numbers, like terms, and random sheets. Here is case A, which
+//! most of the worked cases are edits of.
 
 mod as_numbers;
 mod like_terms;

@@ -1,4 +1,5 @@
-//! Which row is certain to clear a need: by which of its parts, and to what part of a unit.
+//! Which row is certain to clear a need: by which of its parts, to what part of a unit, and at the ends of all ranges
+//! together.
 
 use super::{
     AS_IT_IS, MOST_NEED, MOST_VALUE, MOST_WEIGHT, clears_at_end, first_clear, of_lows, of_one,

@@ -1,4 +1,5 @@
-//! What the gallery's rows say: the first row that is certain, and the rows that clear a need at their end alone.
+//! What the gallery's rows say: the first row that is certain, in shorter steps too, and the rows that clear a need at
+//! their end alone.
 
 use super::{clears_at_end, first_clear};
 use reference::clearance::FirstClear::{self, NoRow, Row};

@@ -1,4 +1,5 @@
-//! The random rows and queries that passages wrote: a certain row clears at its end too, and no row is out of range.
+//! The random rows and queries of passages: a certain row clears at its end too, and no row that a passage writes is out of
+//! range. Also what both files of random queries work with.
 
 use super::clears_at_end;
 use reference::clearance::{FirstClear, Query, ROW_VALUE, is_certain};

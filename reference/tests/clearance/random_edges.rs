@@ -1,4 +1,5 @@
-//! The random rows and queries reach what they are made for: every kind of answer, and both sides of every edge.
+//! The random rows and queries reach what they are made for: every kind of answer, and both sides of every edge, each by
+//! hundreds.
 
 use super::clears_at_end;
 use super::random::{COUNT, VALUE_END, counted_rows, first_clear_at_end, in_range, passed};

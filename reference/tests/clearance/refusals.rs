@@ -1,4 +1,5 @@
-//! What is refused: each refusal at its edge, their order, and what is not asked.
+//! What is refused: each refusal at its edge, by every part of the query and of a row; their order; and what is not
+//! asked.
 
 use super::{
     AS_IT_IS, MOST_NEED, MOST_VALUE, MOST_WEIGHT, first_clear, row_of, with_need, with_run,

@@ -1,4 +1,5 @@
-//! Which row opens a run of certain rows, where the runs begin and end, and the answer as one number.
+//! Which row opens a run of certain rows, where the runs begin and end, that no rows give none, and the answer as one
+//! number.
 
 use super::{AS_IT_IS, first_clear, of_lows, row_of, with_run};
 use reference::clearance::FirstClear::{self, NoRow, Refused, Row};

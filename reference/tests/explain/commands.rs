@@ -1,4 +1,5 @@
-//! The commands `explain` and `read`.
+//! The commands `explain` and `read`, run as a program: what they print, their exit status, and that they take no
+//! argument.
 
 use reference::answer::run;
 use reference::explain::explanation;

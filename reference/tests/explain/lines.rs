@@ -1,4 +1,5 @@
-//! A sheet that is not read: the line at fault, and what stands there.
+//! A sheet that is not read: the line at fault, what stands there, and every word for what is wrong with it. A table has
+//! each fault beside its explanation.
 
 use super::{TWO, first_lines, with_line};
 use reference::explain::explanation;

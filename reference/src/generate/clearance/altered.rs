@@ -1,4 +1,5 @@
-//! One part of a query or its rows altered: to an end of its range, one beyond, or far beyond.
+//! One part of a query or its rows altered: to an end of its range, one beyond, or far beyond; a buffer cut short, and rows
+//! past the count spoilt.
 
 use super::asked::any_number;
 use super::{HIGH, LOW, PART_RANGES, QueryTrial, place_of};

@@ -1,4 +1,5 @@
-//! What is asked of some rows: weights, a base and a need about what a row clears, a run about as long as there is.
+//! What is asked of some rows: weights in their range, a base and a need about what a row clears, and a run about as long
+//! as the longest that there is.
 
 use super::QueryTrial;
 use crate::clearance::{
