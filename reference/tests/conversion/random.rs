@@ -237,27 +237,30 @@ fn is_hindcast(sheet: &[u8]) -> bool {
     lines.any(|line| line.starts_with(b"step=-"))
 }
 
-/// The same trials, made on a thread of their own while earlier ones are looked at: that takes about as long.
-fn ahead(
-    trials: impl Iterator<Item = StoredTrial> + Send + 'static,
-) -> mpsc::IntoIter<StoredTrial> {
+/// Looks at each trial while later ones are made, on a thread of their own: that takes about as long.
+fn look_at_each(
+    trials: impl Iterator<Item = StoredTrial> + Send,
+    look: impl FnMut((StoredTrial, i64)),
+) {
     let (sender, receiver) = mpsc::sync_channel(100);
-    // Where a trial is not as it should be, nobody receives the others.
-    thread::spawn(move || trials.map_while(|trial| sender.send(trial).ok()).count());
-    receiver.into_iter()
+    thread::scope(|scope| {
+        // Where a trial is not as it should be, nobody receives the others.
+        scope.spawn(move || trials.map_while(|trial| sender.send(trial).ok()).count());
+        receiver.into_iter().zip(1..).for_each(look);
+    });
 }
 
 #[test]
 fn every_kind_of_conversion_and_every_edge_is_met_by_hundreds_of_each_direction() {
     let (mut forecasts, mut hindcasts) = (Met::default(), Met::default());
-    for (trial, mark) in ahead(StoredTrials::from_seed(1).take(COUNT)).zip(1_i64..) {
+    look_at_each(StoredTrials::from_seed(1).take(COUNT), |(trial, mark)| {
         let met = if is_hindcast(&trial.sheet) {
             &mut hindcasts
         } else {
             &mut forecasts
         };
         met.meet(&trial, i64::MIN + mark);
-    }
+    });
     for (name, count) in &forecasts.met {
         println!("{name}: {count} forward, {} back", hindcasts.met[name]);
     }
