@@ -117,23 +117,25 @@ class Clearances:
         at_end = least_clearance_at_end(query, row) >= query.need * SCALE
         if margin >= 0 and not at_end:
             return "certain, but not clear by value and radius"
-        short = [moment for moment in moments if slack(query, moment.state) < 0]
+        slacks = [slack(query, moment.state) for moment in moments]
+        short = [moment for moment, by in zip(moments, slacks) if by < 0]
         told = [moment for moment in short if margin >= 0 or at_end and moment.fraction == 1]
         if told:
             return f"below the need at {told[0].fraction} of the step, at degree {told[0].degree}"
         if margin >= 0:
-            self.add_certain(direction, query, row, margin, moments)
+            self.add_certain(direction, query, row, margin, moments, slacks)
         else:
             self.add_uncertain(margin, at_end, {place_of(moment.fraction) for moment in short})
         return None
 
-    def add_certain(self, direction, query, row, margin, moments):
+    def add_certain(self, direction, query, row, margin, moments, slacks):
         self.certain += 1
         self.by_nothing += margin == 0
-        for moment in moments:
+        whole = reach(query, row)
+        for moment, by in zip(moments, slacks):
             self.met.update([direction, place_of(moment.fraction), HIGHER if moment.degree > row.degree else PRINTED])
-            if reach(query, row):
-                self.slacks.append(float(slack(query, moment.state) / reach(query, row)))
+            if whole:
+                self.slacks.append(float(by / whole))
 
     def add_uncertain(self, margin, at_end, short):
         if margin >= -SCALE:

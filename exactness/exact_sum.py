@@ -1,25 +1,33 @@
 """The exact sums of document 01 in whole numbers: no rounding, no row, no radius enters them."""
 
 from fractions import Fraction
+from functools import lru_cache
 from math import comb, factorial, lcm
 
 SCALE = 1 << 24
 
 
+@lru_cache(maxsize=1)
+def begun(state, terms):
+    """Y_0 of each quantity, to which `coefficients` adds the others, and the common denominator D of the state."""
+    denominator = lcm(*(number.denominator for number in state))
+    return [[number.numerator * (denominator // number.denominator)] for number in state], denominator
+
+
 def coefficients(state, terms, degree):
-    """Y_0 to Y_degree of each quantity, and the common denominator D of the state.
+    """Y_0 to Y_degree of each quantity, or more of them, and the common denominator D of the state. Those of the last
+    state are kept, for other degrees from it.
 
     `state` gives each quantity in wholes; `terms` are tuples (to, A, first, second).
     """
-    denominator = lcm(*(number.denominator for number in state))
-    series = [[number.numerator * (denominator // number.denominator)] for number in state]
+    series, denominator = begun(tuple(state), tuple(terms))
 
     def factor(index, order):
         if index:
             return series[index - 1][order]
         return denominator if order == 0 else 0
 
-    for k in range(degree):
+    for k in range(len(series[0]) - 1, degree):
         rates = [0] * len(state)
         for to, coef, first, second in terms:
             rates[to - 1] += coef * sum(

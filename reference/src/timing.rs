@@ -2,8 +2,8 @@
 
 use crate::answer::answer;
 use crate::clearance::{COUNT, Query};
-use crate::compare::{LINKED, MOST_TEXT, planner_answer, planner_first_clear};
-use crate::queries::QueryTrial;
+use crate::generate::clearance::QueryTrial;
+use crate::library::{LINKED, MOST_TEXT, planner_answer, planner_first_clear};
 use crate::rounding::SCALE;
 use crate::sheet::{MOST_PLACES, MOST_QUANTITIES};
 use std::hint::black_box;

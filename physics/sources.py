@@ -1,0 +1,139 @@
+"""The gallery beside the sources that its equations come from, as the lines of the table of docs/SOURCES.md. A figure
+that its source prints is typed in as it stands there; one for which the source has a formula is worked out here. What
+the planner says is taken from the stored answers, the true error from the physics. Exits 1 where a true error is beyond
+its radius.
+"""
+
+import sys
+from collections import namedtuple
+from math import exp, factorial
+
+from physics import FLOATING_POINT_ERROR, SCALE, Gallery, numbers
+
+QUANTITY = 1  # The sources' figures are for this one, or for all together.
+
+
+def geometric(ratio, degree):
+    """Corollary 4 of source 000 where no start is beyond 1, by M times t."""
+    return ratio ** (degree + 1) / (1 - ratio)
+
+
+def third_order(h, time, m0, m1, m2, m3):
+    """Theorem 1 of source 001, by the largest |f|, |f'|, |f''| and |f'''|."""
+    l0 = 5 * m0**2 * m1 * m2 + m0 * m1**3 + m0**3 * m3
+    l1 = (m0**3 * m2**2 + 4 * m0**3 * m1 * m3 + 9 * m0**2 * m1**2 * m2) / 4
+    l2 = (m0**4 * m2 * m3 + m0**3 * m1**2 * m3 + 2 * m0**3 * m1 * m2**2 + 2 * m0**2 * m1**3 * m2) / 2
+    return (exp(m1 * time) - 1) / (6 * m1) * (l0 + l1 * h + l2 * h**2) * h**3
+
+
+def lagrange(x, degree):
+    """The remainder of source 003, section 4.1.1, where no derivative is beyond 1."""
+    return x ** (degree + 1) / factorial(degree + 1)
+
+
+def local_errors(x, h):
+    """The local error of source 003, section 4.2.1, where no second derivative is beyond 1, at each step to x."""
+    return x / h * lagrange(h, 1)
+
+
+LOGISTIC = third_order(1 / 10, 1, 1 / 4, 1, 2, 0)  # f is x - x^2, from 0 to 1.
+
+# The bound and the true error are the source's: text where it prints them, a number where it has a formula. The row is
+# the one that they are compared with, the last one where none is said.
+Figure = namedtuple("Figure", "sheet place bound error row", defaults=[None])
+
+
+def benchmark(sheet, place, error):
+    """A line of Table 1 of source 004, which has relative errors and no bounds."""
+    return Figure(sheet, f"004, Table 1: {place}", None, f"{error} relative")
+
+
+FIGURES = [
+    Figure("square", "000, Table 1: t = 0.5, k = 10", "0.000978", "0.000978"),
+    Figure("logarithm", "000, Table 2: t = 0.1, k = 10", "0.111E-10", "0.833E-12", 2),
+    Figure("logarithm", "000, Table 2: t = 0.5, k = 10", "0.00098", "0.00003", 10),
+    Figure("logarithm", "000, Table 2: t = 0.9, k = 10", "3.1381", "0.0157", 18),
+    Figure("logarithm", "000, Table 2: t = 0.95, k = 10", "11.376", "0.0277", 19),
+    Figure("growing-oscillation", "000, Table 3: t = 0.25, k = 60", geometric(5 / 2 * 0.25, 60), "< 2^-52", 5),
+    Figure("growing-oscillation", "000, Table 4: t = 5, 93 steps, k = 53 on average", None, "0.222E-14"),
+    Figure("logistic", "001, Theorem 1: h = 1/10, T = 1", LOGISTIC, None),
+    Figure("logistic-fine", "001, Theorem 1: h = 1/10, T = 1", LOGISTIC, None),
+    Figure("sine-3", "003, section 4.1.1: N = 3, x = 1/2", lagrange(1 / 2, 3), None),
+    Figure("sine-5", "003, section 4.1.1: N = 5, x = 1/2", lagrange(1 / 2, 5), None),
+    Figure("sine-7", "003, section 4.1.1: N = 7, x = 1/2", lagrange(1 / 2, 7), None),
+    Figure("euler", "003, section 4.2.2: h = 1/16 to x = 1/2", local_errors(1 / 2, 1 / 16), None),
+    Figure("euler-half", "003, section 4.2.2: h = 1/32 to x = 1/2", local_errors(1 / 2, 1 / 32), None),
+    benchmark("simplest", "SIMPLEST, t to 0.9999, LocErr < 10^-15, T12, 134 steps", "7.02·10^-11"),
+    benchmark("simplest", "SIMPLEST, t to 0.99999, LocErr < 10^-10, T12, 66 steps", "2.60·10^-5"),
+    benchmark("jacobi", "JACOB, t to 4K, LocErr < 10^-15, T12, 95 steps", "1.69·10^-16"),
+    benchmark("van-der-pol", "VDPL, t to T, LocErr < 10^-20, T12, 1126 steps", "2.24·10^-16"),
+    benchmark("brusselator", "BRUS, t to 20, LocErr < 10^-15, T12, 10912 steps", "2.89·10^-16"),
+]
+
+HEAD = [
+    "sheet",
+    "source",
+    "its bound",
+    "its true error",
+    "compared at",
+    "value",
+    "degree",
+    "radius",
+    "true error",
+    "refused",
+]
+
+
+def shown(figure):
+    """A source's figure, and how it was come by."""
+    if figure is None:
+        return "none"
+    return f"{figure}, printed" if isinstance(figure, str) else f"{figure:.2e}, by formula"
+
+
+def line(cells):
+    return f"| {' | '.join(cells)} |"
+
+
+class Compared:
+    """A figure of a source, and the row of its sheet's answer that it is compared with."""
+
+    def __init__(self, figure):
+        self.figure, self.gallery = figure, Gallery(figure.sheet)
+        self.degrees = numbers(self.gallery.answer, "degree")[: figure.row]
+        self.row = len(self.degrees)
+        self.radius = self.gallery.rows("radius")[self.row - 1][QUANTITY - 1]
+        self.error = self.gallery.error(self.row, QUANTITY)
+
+    def outside(self):
+        return self.error > self.radius + FLOATING_POINT_ERROR
+
+    def cells(self):
+        least, most = min(self.degrees), max(self.degrees)
+        value = self.gallery.rows("value")[self.row - 1][QUANTITY - 1]
+        [result], [at] = numbers(self.gallery.answer, "result"), numbers(self.gallery.answer, "at")
+        return [
+            self.figure.sheet,
+            self.figure.place,
+            shown(self.figure.bound),
+            shown(self.figure.error),
+            f"quantity {QUANTITY}, row {self.row}, t = {self.gallery.time(self.row):.4g}",
+            f"{value / SCALE:.6f}",
+            f"{least}" if least == most else f"{least} to {most}",
+            f"{self.radius / SCALE:.2e}",
+            f"{self.error / SCALE:.2e}",
+            f"{result} at {at}" if result else "no",
+        ]
+
+
+def main():
+    compared = [Compared(figure) for figure in FIGURES]
+    print(line(HEAD))
+    print(line(["---"] * 5 + ["---:"] * 4 + ["---"]))
+    for comparison in compared:
+        print(line(comparison.cells()))
+    return 1 if any(comparison.outside() for comparison in compared) else 0
+
+
+if __name__ == "__main__":
+    sys.exit(main())
