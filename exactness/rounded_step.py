@@ -56,16 +56,20 @@ def product(c, e, first, second, k):
     return sum(values), sum(ceil(Fraction(error, SCALE)) + 1 for error in errors)
 
 
+def times(by, value, error):
+    """A value and its error times a number of units: Q and f, v and g."""
+    return near(Fraction(by * value, SCALE)), ceil(Fraction(abs(by) * error, SCALE)) + 1
+
+
 def coefficients(values, radii, terms, step, degree):
     """c and e of each quantity, from order 0 to the degree."""
     c, e = [[value] for value in values], [[radius] for radius in radii]
     for k in range(degree):
         rates, errors = [0] * len(values), [0] * len(values)
         for to, coef, first, second in terms:
-            s, f = product(c, e, first, second, k)
-            q, g = near(Fraction(step * s, SCALE)), ceil(Fraction(abs(step) * f, SCALE)) + 1
-            rates[to - 1] += near(Fraction(coef * q, SCALE))
-            errors[to - 1] += ceil(Fraction(abs(coef) * g, SCALE)) + 1
+            v, g = times(coef, *times(step, *product(c, e, first, second, k)))
+            rates[to - 1] += v
+            errors[to - 1] += g
         for i, (rate, error) in enumerate(zip(rates, errors)):
             c[i].append(near(Fraction(rate, k + 1)))
             e[i].append(ceil(Fraction(error, k + 1)) + 1)

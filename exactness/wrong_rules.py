@@ -49,34 +49,28 @@ def tailed(tail):
     return degree_and_tail
 
 
-def forecast(step):
-    """The size of a step forward, and 0 for a step back."""
-    return max(step, 0)
-
-
 def without_tail(scale, q, most, right=rule.degree_and_tail):
     return right(scale, q, most)[0], 0
 
 
 def nearest_ratio(scale, n, terms, step):
-    """The ratio of terms of two factors alone, to the nearest."""
+    """The ratio to the nearest, where G is s."""
     return rule.near(Fraction(sum(abs(coef) for _, coef, _, _ in terms) * abs(step), SCALE))
 
 
-def coefficients(values, radii, terms, step, degree, one=1, size=abs):
-    """c and e, with this 1 in f and g, and by this size of the step."""
-    c, e = [[value] for value in values], [[radius] for radius in radii]
-    for k in range(degree):
-        rates, errors = [0] * len(values), [0] * len(values)
-        for to, coef, first, second in terms:
-            s, f = rule.product(c, e, first, second, k)
-            q, g = rule.near(Fraction(step * s, SCALE)), ceil(Fraction(size(step) * f, SCALE)) + one
-            rates[to - 1] += rule.near(Fraction(coef * q, SCALE))
-            errors[to - 1] += ceil(Fraction(abs(coef) * g, SCALE)) + one
-        for i, (rate, error) in enumerate(zip(rates, errors)):
-            c[i].append(rule.near(Fraction(rate, k + 1)))
-            e[i].append(ceil(Fraction(error, k + 1)) + 1)
-    return c, e
+def forecast_ratio(scale, n, terms, step, right=rule.ratio):
+    """The ratio by H and not |H|: none for a step back."""
+    return right(scale, n, terms, max(step, 0))
+
+
+def without_one(by, value, error, right=rule.times):
+    value, error = right(by, value, error)
+    return value, error - 1
+
+
+def forecast_radii(by, value, error, right=rule.times):
+    """By the sheet's step, a quarter back, an error is 1 whatever it was."""
+    return right(by, value, 0 if by == -QUARTER else error)
 
 
 A, BACK, UNIT = Sheet(), Sheet(step=-QUARTER), Sheet(step=1)
@@ -95,11 +89,11 @@ ROWS = {
     "tail-of-one-order": (A, A.row(degree_and_tail=tailed(lambda power, q: power)), [1], 4),
     "tail-rounded-down": (UNIT, UNIT.row(degree_and_tail=tailed(lambda power, q: floor(Fraction(power * SCALE, SCALE - q)))), [1], 2),
     "ratio-to-nearest": (STEEPER, STEEPER.row(ratio=nearest_ratio), [1], 2),
-    "ratio-of-a-forecast-alone": (BACK, BACK.row(ratio=lambda *of, right=rule.ratio: right(*of[:-1], forecast(of[-1]))), [1], 1),
+    "ratio-of-a-forecast-alone": (BACK, BACK.row(ratio=forecast_ratio), [1], 1),
     "greatest-from-values-alone": (WIDE, WIDE.row(common_scale=lambda values, radii: max([SCALE, *map(abs, values)])), [2], 1),
-    "radii-of-a-forecast-alone": (BACKWARD, BACKWARD.row(coefficients=lambda *of: coefficients(*of, size=forecast)), [1], 1),
-    "next-step-from-radius-0": (STILL, (0, [0], [0]), [Fraction(5, SCALE)], 0),
-    "without-its-one": (SEVEN, SEVEN.row(coefficients=lambda *of: coefficients(*of, one=0)), [1] * 6, 1),
+    "radii-of-a-forecast-alone": (BACKWARD, BACKWARD.row(times=forecast_radii), [1], 1),
+    "next-step-from-radius-0": (STILL, Sheet([0], [0], [], 1, 2).row(), [Fraction(5, SCALE)], 0),
+    "without-its-one": (SEVEN, SEVEN.row(times=without_one), [1] * 6, 1),
 }
 
 
