@@ -4,6 +4,7 @@ use Rattle.model.specs.Cases.Forms.{Hold, firstRow}
 use Rattle.model.specs.Cases.Sheets.{squares}
 use Rattle.model.specs.Cases.Soundings.{soundings}
 use Rattle.model.specs.Cases.Steps.{steps-taken}
+use Rattle.model.specs.Cases.Rows.{rows-kept}
 use Rattle.model.specs.Cases.Readings.{readings}
 use Rattle.model.specs.Cases.Verdicts.{verdicts}
 use Rattle.model.specs.Cases.Gathering.{gathering}
@@ -17,6 +18,10 @@ soundings-hold = refl
 pub steps-hold : Hold steps-taken
 unfolding every-definition Hold firstRow steps-taken
 steps-hold = refl
+
+pub rows-hold : Hold rows-kept
+unfolding every-definition Hold rows-kept
+rows-hold = refl
 
 pub readings-hold : Hold readings
 unfolding every-definition Hold firstRow readings

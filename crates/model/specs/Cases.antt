@@ -3,6 +3,7 @@ pub mod Forms
 pub mod Sheets
 pub mod Soundings
 pub mod Steps
+pub mod Rows
 pub mod Readings
 pub mod Verdicts
 pub mod Gathering

@@ -9,16 +9,19 @@ use lib.IntN.{ℤ, pos, negℤ, _+ℤ_, _-ℤ_}
 use lib.ListN.{length, take, drop, replicate}
 use Rattle.rounding.specs.Rounding.{near, up}
 use Rattle.ranges.specs.Range.{bytes}
-use Rattle.model.specs.Sheet.{result, refusedStep, termsOf}
+use Rattle.model.specs.Sheet.{number, result, refusedStep, verdictNumber, verdictOutcome, sheetVerdictTo, termsOf}
 use Rattle.model.specs.Reading.{Spelled, spelled, wrong, natural, signed, readSheetTo, readSheet}
 use Rattle.model.specs.LikeTerms.{gathered}
-use Rattle.model.specs.Step.{Ball, Row}
-use Rattle.model.specs.Passage.{Advance, stepOf, passage, rowsWritten}
-use Rattle.model.specs.Rows.{written, rowsIn}
+use Rattle.model.specs.Step.{Ball, Span, Row}
+use Rattle.model.specs.Passage.{Advance, advanceNumber, stepOf, passage, rowsWritten}
+use Rattle.model.specs.Rows.{laidOut, ballsOf, spansLaidOut, spansOf, no-spans, written, rowsIn}
 use Rattle.model.specs.Answer.{decimal, runOf, answer}
+use Rattle.model.specs.declared.Refusal.{Refusal}
 use Rattle.model.specs.declared.Outcome.{Outcome}
 use Rattle.model.specs.declared.Start.the-variants.{Reading}
 use Rattle.model.specs.declared.Quantity.{Quantity}
+use Rattle.model.specs.declared.Balls.{Balls}
+use Rattle.model.specs.declared.Spans.{Spans}
 use Rattle.model.specs.declared.Sheet.{Sheet}
 use Rattle.model.specs.declared.Term.{Term}
 
@@ -43,6 +46,10 @@ pub data Finding : Type 0 where
   list : List Term → Finding
   -- what stands past the first quantity, and past the first term
   past : List Quantity → List Term → Finding
+  -- a sheet
+  record-of : Sheet → Finding
+  -- balls and spans in arrays, and by themselves
+  arrays : Balls → Spans → List Ball → List Span → Finding
   -- whether each of some numbers is in a range
   tests : List Bool → Finding
   -- a whole number
@@ -130,6 +137,40 @@ takes high sheet number = (told (readSheetTo high (bytes sheet) .outcome), outco
 -- a sheet given as numbers, with no places lent, is refused by this number, before step 1
 abbrev pub judged : Sheet → ℕ → Case
 judged sheet number = (told (passage sheet 0 .outcome), outcome number 0)
+
+-- a sheet given as numbers, with at most so many steps, is refused by this number, before step 1, or passes
+abbrev pub verdictTo : ℕ → Sheet → ℕ → Case
+verdictTo high sheet number =
+    let verdict = sheetVerdictTo high sheet in (told (verdictOutcome verdict) and whole (pos (verdictNumber verdict)), outcome number 0 and whole (pos number))
+
+-- a refusal has this number
+abbrev pub numbered : Refusal → ℕ → Case
+numbered refusal n = (whole (pos (number refusal)), whole (pos n))
+
+-- one step of a sheet has this number: 0, or that of its refusal
+abbrev pub stepNumber : Sheet → List Ball → ℕ → Case
+stepNumber sheet from n = (whole (pos (advanceNumber (stepOf sheet from))), whole (pos n))
+
+-- balls and spans are laid out in these arrays, and read back from there
+abbrev pub laid : List Ball → List Span → Balls → Spans → Case
+laid these ends in-balls in-spans =
+    (arrays (laidOut these) (spansLaidOut ends) (ballsOf (length these) in-balls) (spansOf (length ends) in-spans), arrays in-balls in-spans these ends)
+
+-- none are these arrays
+abbrev pub laid-none : Balls → Spans → Case
+laid-none in-balls in-spans = (arrays (laidOut []) no-spans [] [], arrays in-balls in-spans [] [])
+
+-- a text is refused by this number, and read as the sheet of zeros
+abbrev pub zeros : String → ℕ → Case
+zeros sheet number =
+    let read = readSheet (bytes sheet) in (
+      told (read .outcome) and record-of (read .sheet),
+      outcome number 0 and record-of (record {
+        head = record { n = 0; steps = 0; step = pos 0; tail = 0; tol = 0 };
+        quantities = replicate 8 (record { start = Reading (pos 0); radius = 0 });
+        terms = record { count = 0; list = replicate 32 (record { to = 0; coef = pos 0; first = 0; second = 0 }) };
+      }),
+    )
 
 -- the one list of terms is gathered into the other
 abbrev pub gathers : List Term → List Term → Case

@@ -25,4 +25,7 @@ gathering =
     ∷ gathers (term 1 (pos 5) 1 1 ∷ term 1 (pos 6) 1 2 ∷ term 1 (pos 0) 2 0 ∷ term 1 (pos 7) 2 2 ∷ []) (term 1 (pos 5) 1 1 ∷ term 1 (pos 6) 1 2 ∷ term 1 (pos 7) 2 2 ∷ [])
     ∷ gathers (term 1 (pos 5) 1 1 ∷ term 1 (negℤ (pos 5)) 1 1 ∷ []) []
     ∷ gathers (term 1 (pos 268435456) 0 0 ∷ term 1 (pos 268435456) 0 0 ∷ []) (term 1 (pos 536870912) 0 0 ∷ [])
+    -- like terms behind one that is not like them, with their factors in the same order, and a sum of 1; a 0 that is the earliest keeps its place and its order
+    ∷ gathers (term 1 (pos 5) 1 2 ∷ term 1 (pos 6) 2 0 ∷ term 1 (pos 7) 2 0 ∷ term 1 (pos 1) 0 0 ∷ []) (term 1 (pos 5) 1 2 ∷ term 1 (pos 13) 2 0 ∷ term 1 (pos 1) 0 0 ∷ [])
+    ∷ gathers (term 1 (pos 0) 1 2 ∷ term 1 (pos 7) 1 1 ∷ term 1 (pos 5) 2 1 ∷ []) (term 1 (pos 5) 1 2 ∷ term 1 (pos 7) 1 1 ∷ [])
     ∷ []

@@ -2,7 +2,7 @@
 use Prim.Native.String.{_++_ as _&_}
 use mathlib.Core.List.{List, [], _∷_}
 use lib.IntN.{pos}
-use Rattle.model.specs.Cases.Forms.{Case, prints, opens, alone, garbled, takes, fails}
+use Rattle.model.specs.Cases.Forms.{Case, prints, opens, alone, garbled, takes, fails, zeros}
 use Rattle.model.specs.Cases.Sheets.{sheetLines, square, A, A-by, A-from}
 
 -- texts with what comes of them
@@ -39,4 +39,21 @@ readings =
     -- a reader of more steps, which the conversion of stored sheets has
     ∷ takes 401 (sheetLines "401" "4194304" "349526" "349534" "16777216" "0" square) 0
     ∷ takes 401 (sheetLines "402" "4194304" "349526" "349534" "16777216" "0" square) 3
+    -- each line by its own range: a text that ends behind the line is refused by 3 where its number is not in range, and by 2 otherwise
+    ∷ fails "n=0\n" "3"
+    ∷ fails "n=8\n" "2"
+    ∷ fails "n=9\n" "3"
+    ∷ fails "n=1\nsteps=1\nstep=1\ntail=1\n" "3"
+    ∷ fails "n=1\nsteps=1\nstep=1\ntail=16777217\n" "3"
+    ∷ fails "n=1\nsteps=1\nstep=1\ntail=16777216\ntol=536870912\n" "2"
+    ∷ fails (A-from "none " "0") "2"
+    ∷ fails (A "33\n") "3"
+    ∷ fails (A "1\nto=0\n") "3"
+    ∷ fails (A "1\nto=2\n") "3"
+    ∷ fails (A "1\nto=1\ncoef=268435457\n") "3"
+    ∷ fails (A "1\nto=1\ncoef=-268435456\nfirst=2\n") "3"
+    ∷ fails (A "1\nto=1\ncoef=0\nfirst=0\nsecond=1\n") "3"
+    ∷ fails (A "1\nto=1\ncoef=0\nfirst=1\nsecond=2\n") "3"
+    -- a refused text is the sheet of zeros
+    ∷ zeros (A square & "\n") 2
     ∷ []

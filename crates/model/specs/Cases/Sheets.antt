@@ -87,6 +87,15 @@ given steps step tol quantities count =
       terms = termsHeld count [];
     }
 
+-- one quantity with a tail, a start and terms, over one step; what stands past it is no reading
+abbrev pub lone : ℕ → ℤ → List Term → Sheet
+lone tail start list =
+    record {
+      head = record { n = 1; steps = 1; step = pos 1; tail = tail; tol = 1 };
+      quantities = quantitiesHeld (record { start = Reading start; radius = 0 } ∷ missing 536870913 ∷ []);
+      terms = termsHeld (length list) list;
+    }
+
 -- x' = x × x
 abbrev pub A-terms : List Term
 A-terms = term 1 (pos 16777216) 1 1 ∷ []

@@ -1,9 +1,11 @@
 -- The range of each field, and question 3: a sheet given as numbers.
 use mathlib.Core.List.{List, [], _∷_}
 use lib.IntN.{pos, negℤ}
-use Rattle.model.specs.Cases.Forms.{Case, judged, spans}
-use Rattle.model.specs.Cases.Sheets.{reading, missing, given}
+use lib.ListN.{replicate}
+use Rattle.model.specs.Cases.Forms.{Case, judged, verdictTo, numbered, spans}
+use Rattle.model.specs.Cases.Sheets.{reading, missing, term, given, lone}
 use Rattle.model.specs.Sheet.{most-steps, stored-steps, within, n-limits, steps-limits, stepWithin, tail-limits, tol-limits, start-limits, radius-limits, terms-limits, to-limits, coef-limits, first-limits, second-limits}
+use Rattle.model.specs.declared.Refusal.the-variants.{QueryOutOfRange, RowOutOfRange}
 
 -- ranges with their ends, and sheets as numbers with their refusal
 unfoldable pub verdicts : List Case
@@ -39,4 +41,24 @@ verdicts =
     ∷ judged (given 1 (pos 1) 1 (missing 0 ∷ []) 1) 4
     ∷ judged (given 1 (pos 1) 1 (reading 0 0 ∷ []) 1) 3
     ∷ judged (given 1 (pos 1) 1 (reading 0 0 ∷ []) 0) 5
+    -- each field is asked by its own range
+    ∷ judged (given 1 (pos 1) 1 [] 0) 3
+    ∷ judged (given 1 (pos 1) 1 (replicate 9 (reading 0 0)) 0) 3
+    ∷ judged (lone 1 (pos 0) (term 1 (pos 0) 0 0 ∷ [])) 3
+    ∷ judged (lone 2 (negℤ (pos 536870912)) (term 1 (negℤ (pos 268435456)) 0 0 ∷ [])) 5
+    ∷ judged (lone 16777216 (pos 536870912) (term 1 (pos 268435456) 1 1 ∷ [])) 5
+    ∷ judged (lone 16777217 (pos 0) (term 1 (pos 0) 0 0 ∷ [])) 3
+    ∷ judged (lone 2 (pos 536870913) (term 1 (pos 0) 0 0 ∷ [])) 3
+    ∷ judged (lone 2 (pos 0) (term 2 (pos 0) 0 0 ∷ [])) 3
+    ∷ judged (lone 2 (pos 0) (term 1 (pos 268435457) 0 0 ∷ [])) 3
+    ∷ judged (lone 2 (pos 0) (term 1 (pos 0) 2 1 ∷ [])) 3
+    ∷ judged (lone 2 (pos 0) (term 1 (pos 0) 1 2 ∷ [])) 3
+    ∷ judged (lone 2 (pos 0) (term 1 (pos 0) 0 1 ∷ [])) 3
+    ∷ judged (lone 2 (pos 0) (term 1 (pos 0) 0 0 ∷ term 2 (pos 0) 0 0 ∷ [])) 3
+    -- a stored sheet's steps; a verdict as an outcome and as a number
+    ∷ verdictTo 400 (given 400 (pos 1) 1 (reading 0 0 ∷ []) 0) 0
+    ∷ verdictTo 400 (given 401 (pos 1) 1 (reading 0 0 ∷ []) 0) 3
+    -- the numbers of the refusals of a question about rows
+    ∷ numbered QueryOutOfRange 9
+    ∷ numbered RowOutOfRange 10
     ∷ []
