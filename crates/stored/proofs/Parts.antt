@@ -25,7 +25,7 @@ use Rattle.ranges.proofs.Lists.{each-at}
 use Rattle.laws.proofs.Passages.RowsOfPassage.{rows-of-run}
 use Rattle.laws.proofs.Passages.UnderWay.{after}
 
-accepted-not-refused : {r : Refusal} {step : ℕ} → Accepted ≡ Refused r step → ⊥
+pub accepted-not-refused : {r : Refusal} {step : ℕ} → Accepted ≡ Refused r step → ⊥
 accepted-not-refused e = let z : _≡_ {A = ℕ} 0 1 = cc in omega arith
 
 -- the same rows, and a refusal so many steps later
