@@ -14,12 +14,12 @@ use Rattle.model.specs.Step.{Coefficients, coefficient, factor, productRadius, 
 use Rattle.model.specs.declared.Ball.{Ball}
 use Rattle.model.specs.declared.Term.{Term}
 use Rattle.ranges.proofs.Ranges.{before-or-past, sum-equal, sumℤ-equal, length-tabulate}
-use Rattle.laws.proofs.Steps.Tables.{coefficients-grow}
+use Rattle.laws.proofs.Steps.Tables.{coefficients-grow, ball-equal}
 use Rattle.laws.specs.Bounds.{InBounds}
 use Rattle.laws.proofs.Bounds.Invariant.{greatest-le-most, coefficient-bounded}
 use Rattle.products.specs.Table.{ballAt, tableIn, Small}
 use Rattle.coefficients.specs.Orders.{startIn, Filled}
-use Rattle.products.proofs.TablePlaces.{ball-equal, coefficient-in, coefficient-past}
+use Rattle.products.proofs.TablePlaces.{coefficient-in, coefficient-past}
 
 pub length-start : (n : ℕ) (values : List ℤ) (reaches : List ℕ) → length (startIn n values reaches) ≡ n
 unfolding startIn

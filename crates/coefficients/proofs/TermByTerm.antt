@@ -23,7 +23,7 @@ use Rattle.laws.proofs.Bounds.WorkingNumbers.{step-product-fits, term-product-f
 use Rattle.model.specs.Rows.{ballIn}
 use Rattle.products.specs.Table.{tableIn, ShareFits}
 use Rattle.coefficients.specs.Orders.{startIn, Filled}
-use Rattle.products.proofs.TablePlaces.{ball-equal}
+use Rattle.laws.proofs.Steps.Tables.{ball-equal}
 use Rattle.coefficients.proofs.Filled.{length-start, filled-small, products-filled}
 use Rattle.coefficients.proofs.Filling.{sumsTo}
 

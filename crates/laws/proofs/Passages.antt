@@ -2,6 +2,7 @@
 pub mod RowPlaces
 pub mod RowRead
 pub mod Padded
+pub mod LaidOut
 pub mod RowsOfPassage
 pub mod UnderWay
 pub mod PastCounts

@@ -18,7 +18,7 @@ use Rattle.taylor.specs.StepAnswers.{rowLaidOut, answered}
 use Rattle.taylor.specs.declared.step.Numbers.{Numbers}
 use Rattle.taylor.specs.declared.step.Stepped.{Stepped}
 use Rattle.taylor.specs.declared.step.Advance.the-variants.{Moves, Stops}
-use Rattle.new_row.proofs.LaidOut.{balls-laid-out, spans-laid-out}
+use Rattle.laws.proofs.Passages.LaidOut.{balls-laid-out, spans-laid-out}
 use Rattle.laws.proofs.Passages.RowPlaces.{Quantities, length-balls}
 
 -- ---- a row or a refusal, where the definition's is

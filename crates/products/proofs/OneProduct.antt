@@ -17,7 +17,8 @@ use Rattle.laws.proofs.Bounds.Reach.{reach-product}
 use Rattle.laws.proofs.Bounds.ShareBounds.{partialProducts}
 use Rattle.laws.proofs.Bounds.WorkingNumbers.{products-fit}
 use Rattle.products.specs.Table.{orders, place, tableIn, Small, Reached, IsQuantity}
-use Rattle.products.proofs.TablePlaces.{ball-equal, factors-small, reach-in, value-kept, reached-at}
+use Rattle.products.proofs.TablePlaces.{factors-small, reach-in, value-kept, reached-at}
+use Rattle.laws.proofs.Steps.Tables.{ball-equal}
 
 pub no-products : (table : Coefficients) (k first second : ℕ) → _≡_ {A = Ball} (record { value = pos 0; radius = 0 }) (partialProducts table k first second 0)
 unfolding partialProducts range.sum range.sumℤ

@@ -14,16 +14,10 @@ use Rattle.rounding.proofs.Machine.{sfits-abs}
 use Rattle.ranges.specs.Range.{tabulate}
 use Rattle.model.specs.Sheet.{scale, most, most-quantities}
 use Rattle.model.specs.Step.{most-degree, no-ball, reach, coefficient, factor}
-use Rattle.model.specs.declared.Ball.{Ball}
 use Rattle.ranges.proofs.Ranges.{before-or-past, getD-tabulate, getD-tabulate-past}
 use Rattle.laws.proofs.Bounds.ShareBounds.{FactorsReach}
 use Rattle.laws.proofs.Bounds.WorkingNumbers.{value-le-reach}
 use Rattle.products.specs.Table.{table-places, place, ballAt, tableIn, Table, Small, Reached, IsQuantity}
-
--- ---- a ball by its parts
-
-pub ball-equal : {v w : ℤ} {r s : ℕ} → v ≡ w → r ≡ s → _≡_ {A = Ball} (record { value = v; radius = r }) (record { value = w; radius = s })
-ball-equal p q = rw (p, q)
 
 -- ---- places
 

@@ -3,7 +3,7 @@ ghost use Prim.Native.Nat.{_≤_, _<_};
 ghost use mathlib.Core.List.{map};
 ghost use mathlib.Core.Path.{_≡_};
 ghost use Rattle.model.specs.Sheet.{most-quantities, most-steps, quantitiesHeld};
-ghost use Rattle.model.specs.Rows.{rowIn, ballsOf};
+ghost use Rattle.model.specs.Rows.{rowIn, ballsOf, laidOut};
 ghost use Rattle.stored.specs.Conversion as model;
 ghost use Rattle.rows.specs.Room.{HasRow};
 use model::Balls;
@@ -44,10 +44,10 @@ pub fn first_part(sheet: Sheet) -> Sheet
     }
 }
 
-// The values and radii of a row, the rows counted from 0.
+// The values and radii of a row, the rows counted from 0, with 0 past them.
 pub fn balls_of(n: usize, rows: &[i64], row: usize) -> Balls
     requires { ⌜ HasRow n row (now rows) ⌝ }
-    ensures { λ r. ⌜ ballsOf n r ≡ rowIn n (now (rows .entry)) row .balls ⌝ }
+    ensures { λ r. ⌜ r ≡ laidOut (rowIn n (now (rows .entry)) row .balls) ⌝ }
 {
     let mut values = [0i64; MOST_QUANTITIES];
     let mut radii = [0u64; MOST_QUANTITIES];

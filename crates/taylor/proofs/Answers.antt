@@ -31,7 +31,7 @@ use Rattle.taylor.specs.declared.step.Advance.the-variants.{Moves}
 use Rattle.taylor.specs.declared.step.Numbers.{Numbers}
 use Rattle.taylor.specs.declared.step.Stepped.{Stepped}
 use Rattle.ratio.proofs.Balls.{getD-balls, greatest-is}
-use Rattle.new_row.proofs.LaidOut.{balls-laid-out}
+use Rattle.laws.proofs.Passages.LaidOut.{balls-laid-out}
 
 -- equal tests of each number have one answer
 every-equal : (n : ℕ) (f g : ℕ → Bool) → ((i : ℕ) → i < n → f i ≡ g i) → every n f ≡ every n g

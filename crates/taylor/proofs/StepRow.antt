@@ -18,7 +18,7 @@ use Rattle.model.specs.declared.Balls.{Balls}
 use Rattle.model.specs.declared.Spans.{Spans}
 use Rattle.coefficients.proofs.Filled.{coefficient-filled}
 use Rattle.taylor.specs.StepAnswers.{rowLaidOut}
-use Rattle.products.proofs.TablePlaces.{ball-equal}
+use Rattle.laws.proofs.Steps.Tables.{ball-equal}
 
 -- order 0 of the table is what the step starts from
 pub start-is : (n : ℕ) (start : List ℤ) (radii : List ℕ) (values : List ℤ) (reaches : List ℕ) → ((i : ℕ) → i < n → ballAt values reaches 0 i ≡ ballIn start radii i) → startIn n values reaches ≡ ballsIn n start radii

@@ -4,6 +4,7 @@ use borrow.Author.Needs.{needs}
 use Rattle.model.specs.Sheet.{stored-steps}
 use Rattle.decimal.proofs.Pieces.{put-same}
 use Rattle.laws.proofs.Text.Verdicts.{few-in-sheet as few}
+use Rattle.laws.proofs.Passages.LaidOut.{row-laid-out}
 use Rattle.conversion.proofs.Converted.{kept-written, kept-early, kept-refused, kept-last, kept-accepted, length-refused}
 use Rattle.conversion.proofs.split.Statement.{statement}
 use Rattle.conversion.proofs.split.Tie as tie
@@ -29,7 +30,7 @@ returns-2 c =
     let sheet = to-start ran .args .sheet in
     let is = ran .before .before .first-part .ensures in
     let put = c .before .before .put-parts .ensures in
-    (put-same (kept-accepted sheet is (ran .run .ensures .0) (told .enum-told2 .given .1) (balls .balls-of .ensures)) (put .0), (kept-written sheet is (ran .run .ensures .0), put .1))
+    (put-same (kept-accepted sheet is (ran .run .ensures .0) (told .enum-told2 .given .1) (row-laid-out _ _ _ (balls .balls-of .ensures))) (put .0), (kept-written sheet is (ran .run .ensures .0), put .1))
 
 -- ---- what the calls ask
 

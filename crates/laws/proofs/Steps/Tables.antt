@@ -12,6 +12,10 @@ use Rattle.model.specs.declared.Ball.{Ball}
 use Rattle.model.specs.declared.Term.{Term}
 use Rattle.ranges.proofs.Ranges.{getD-tabulate, getD-tabulate-past}
 
+-- a ball by its parts
+pub ball-equal : {v w : ℤ} {r s : ℕ} → v ≡ w → r ≡ s → _≡_ {A = Ball} (record { value = v; radius = r }) (record { value = w; radius = s })
+ball-equal p q = rw (p, q)
+
 -- entry d k i is entry i of row k in the table of the rows 0 .. d; next k i is what the table of the rows 0 .. k gives for row k + 1
 pub record Grows {A : Type 0} (none : A) (start : List A) (next : ℕ → ℕ → A) (entry : ℕ → ℕ → ℕ → A) : Type 0 where
   pub stays : (d k i : ℕ) → k ≤ d → entry d k i ≡ entry k k i

@@ -3,7 +3,7 @@ use mathlib.Core.List.{List, [], _∷_}
 use lib.IntN.{pos, negℤ}
 use lib.ListN.{replicate}
 use Rattle.model.specs.Cases.Forms.{Case, lent, leaves, laid, laid-none}
-use Rattle.model.specs.Cases.Sheets.{sheetLines, none, one, two, wholes}
+use Rattle.model.specs.Cases.Sheets.{sheetLines, none, two, wholes}
 
 -- sheets with the places that they need and what they leave there, and rows in arrays
 unfoldable pub rows-kept : List Case

@@ -18,7 +18,8 @@ use Rattle.model.specs.declared.Ball.{Ball}
 use Rattle.ranges.proofs.Ranges.{sum-suc, sumℤ-suc, sum-equal, sumℤ-equal}
 use Rattle.laws.proofs.Bounds.Reach.{reach-sums-bounded}
 use Rattle.products.specs.Table.{orders, place, ballAt, tableIn, Small}
-use Rattle.products.proofs.TablePlaces.{ball-equal, coefficient-in}
+use Rattle.products.proofs.TablePlaces.{coefficient-in}
+use Rattle.laws.proofs.Steps.Tables.{ball-equal}
 use borrow.Author.Needs.{needs}
 use Rattle.new_row.proofs.new_ball.Statement.{statement}
 use Rattle.new_row.proofs.new_ball.Tie as tie

@@ -13,7 +13,7 @@ use Rattle.model.specs.Sheet.{most-quantities}
 use Rattle.model.specs.Step.{newBall}
 use Rattle.ranges.proofs.Stores.{stored-in-front}
 use Rattle.products.specs.Table.{tableIn}
-use Rattle.new_row.proofs.LaidOut.{stored-laid-out}
+use Rattle.laws.proofs.Passages.LaidOut.{stored-laid-out}
 use Rattle.new_row.proofs.new_balls.Statement.{statement}
 use Rattle.new_row.proofs.new_balls.Tie as tie
 

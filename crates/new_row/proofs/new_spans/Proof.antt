@@ -13,7 +13,7 @@ use Rattle.model.specs.Sheet.{most-quantities}
 use Rattle.model.specs.Step.{newSpan}
 use Rattle.ranges.proofs.Stores.{stored-in-front}
 use Rattle.products.specs.Table.{tableIn}
-use Rattle.new_row.proofs.LaidOut.{stored-spans}
+use Rattle.laws.proofs.Passages.LaidOut.{stored-spans}
 use Rattle.new_row.proofs.new_spans.Statement.{statement}
 use Rattle.new_row.proofs.new_spans.Tie as tie
 

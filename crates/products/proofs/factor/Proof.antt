@@ -15,7 +15,8 @@ use Rattle.model.specs.Sheet.{scale, most-quantities}
 use Rattle.model.specs.Step.{Coefficients, no-ball, factor}
 use Rattle.model.specs.declared.Ball.{Ball}
 use Rattle.products.specs.Table.{orders, place, ballAt, tableIn}
-use Rattle.products.proofs.TablePlaces.{ball-equal, factor-in}
+use Rattle.products.proofs.TablePlaces.{factor-in}
+use Rattle.laws.proofs.Steps.Tables.{ball-equal}
 use borrow.Author.Needs.{needs}
 use Rattle.products.proofs.factor.Statement.{statement}
 use Rattle.products.proofs.factor.Tie as tie

@@ -12,7 +12,7 @@ use Rattle.rounding.proofs.Machine.{sfits-abs, magnitude-is}
 use Rattle.model.specs.Sheet.{scale}
 use Rattle.model.specs.Step.{reach, times}
 use Rattle.model.specs.declared.Ball.{Ball}
-use Rattle.products.proofs.TablePlaces.{ball-equal}
+use Rattle.laws.proofs.Steps.Tables.{ball-equal}
 use borrow.Author.Needs.{needs}
 use Rattle.products.proofs.times.Statement.{statement}
 use Rattle.products.proofs.times.Tie as tie

@@ -1,40 +1,45 @@
--- `sheet_parts::balls_of` meets its contract. The loop's invariant: the arrays begin with the balls passed.
-use Prim.Native.Nat.{_-_, _≤_}
-use mathlib.Core.Path.{refl}
+-- `sheet_parts::balls_of` meets its contract. The loop's invariant: the balls passed stand in arrays of zeros.
+use Prim.Native.Nat.{ℕ, _-_, _≤_}
+use mathlib.Core.Path.{_≡_, refl, ap, _∙_}
 use native.Mathlib.Omega.{arith}
 use borrow.Author.Needs.{needs}
 use lib.IntN.{pos}
+use lib.ListN.{replicate}
+use lib.Seq.{sets}
 use mir.Facts.{toZ-ofZ}
 use Rattle.model.specs.Sheet.{most-quantities}
-use Rattle.model.specs.Step.{no-ball}
-use Rattle.model.specs.Rows.{rowIn, ballIn, ballsIn}
-use Rattle.ranges.proofs.Ranges.{tabulate-is}
-use Rattle.ranges.proofs.Stores.{Begins, begins-with-none, begins-with-one-more}
-use Rattle.laws.proofs.Passages.RowRead.{ballAt, length-row-balls}
+use Rattle.ranges.specs.Range.{tabulate}
+use Rattle.ranges.proofs.Stores.{stored-in-front}
+use Rattle.laws.proofs.Passages.RowRead.{ballAt, all-balls}
+use Rattle.laws.proofs.Passages.LaidOut.{stored-laid-out}
 use Rattle.sheet_parts.proofs.balls_of.Statement.{statement}
 use Rattle.sheet_parts.proofs.balls_of.Tie as tie
 
 abbrev Inv-loop : tie.InvT-loop
 Inv-loop n rows row values₀ radii₀ i₀ values radii i =
-    Begins (λ k. ballAt n rows row k .value) (pos 0) most-quantities i values × Begins (λ k. ballAt n rows row k .radius) 0 most-quantities i radii × (i ≤ n)
+    (values ≡ sets (replicate most-quantities (pos 0)) 0 (tabulate i (λ k. ballAt n rows row k .value))) × (radii ≡ sets (replicate most-quantities 0) 0 (tabulate i (λ k. ballAt n rows row k .radius))) × (i ≤ n)
 
 abbrev μ-loop : tie.MeasureT-loop
 μ-loop n rows row values₀ radii₀ i₀ values radii i = n - i
 
 loop-holds : tie.Need-loop-holds Inv-loop μ-loop
-loop-holds c = (begins-with-none refl, begins-with-none refl, omega arith)
+unfolding tabulate
+loop-holds c = (refl, refl, omega arith)
 
 loop-again : tie.Need-loop-again Inv-loop μ-loop
 loop-again c =
     let turn = c .before .before .before .loop in
-    (rw (toZ-ofZ (record { sfits = c .before .value-at .ok }), c .before .value-at .ensures) (begins-with-one-more (turn .inv .0) (omega arith)), rw (c .radius-at .ensures) (begins-with-one-more (turn .inv .1) (omega arith)), omega arith)
+    (rw (toZ-ofZ (record { sfits = c .before .value-at .ok }), c .before .value-at .ensures) (stored-in-front _ (turn .i) _ (turn .inv .0)), rw (c .radius-at .ensures) (stored-in-front _ (turn .i) _ (turn .inv .1)), omega arith)
 
 returns : tie.Need-returns Inv-loop μ-loop
-unfolding ballsIn ballIn
 returns c =
-    let args = c .before .before .args in
-    let begun = c .before .loop .inv in
-    tabulate-is (args .n) _ no-ball (rowIn (args .n) (args .rows .now) (args .row) .balls) (length-row-balls (args .n) (args .rows .now) (args .row)) (λ i h. λ t. record { value = begun .0 .entry i (omega arith) t; radius = begun .1 .entry i (omega arith) t })
+    let at-start = c .before .before in
+    let args = at-start .args in
+    let inv = c .before .loop .inv in
+    let all : c .before .loop .i ≡ args .n = omega arith in
+    let ball = ballAt (args .n) (args .rows .now) (args .row) in
+    rw (← (all-balls (args .n) (args .rows .now) (args .row)))
+    (stored-laid-out (args .n) ball (at-start .pre .few) (inv .0 ∙ ap (λ (k : ℕ). sets (replicate most-quantities (pos 0)) 0 (tabulate k (λ i. ball i .value))) all) (inv .1 ∙ ap (λ (k : ℕ). sets (replicate most-quantities 0) 0 (tabulate k (λ i. ball i .radius))) all))
 
 -- ---- what fits
 

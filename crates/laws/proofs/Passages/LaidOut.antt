@@ -1,7 +1,7 @@
 -- A row's balls and spans in arrays with 0 past its quantities: storing them leaves them so, and they are read from there as they were.
 use Prim.Native.Nat.{ℕ, _≤_, _<_}
 use mathlib.Core.List.{List, map}
-use mathlib.Core.Path.{_≡_, _∙_}
+use mathlib.Core.Path.{_≡_, ap, _∙_}
 use lib.IntN.{ℤ, pos}
 use lib.ListN.{length, getD, replicate, length-map, List·getD-append, List·getD-map}
 use lib.Seq.{sets}
@@ -9,11 +9,13 @@ use Rattle.ranges.specs.Range.{tabulate}
 use Rattle.model.specs.Sheet.{most-quantities, padded}
 use Rattle.model.specs.Step.{no-ball, no-span}
 use Rattle.model.specs.declared.Ball.{Ball}
+use Rattle.model.specs.declared.Balls.{Balls}
 use Rattle.model.specs.declared.Span.{Span}
 use Rattle.ranges.proofs.Ranges.{length-tabulate, map-tabulate, tabulate-is}
 use Rattle.laws.proofs.Passages.Padded.{stored-padded}
-use Rattle.model.specs.Rows.{ballIn, ballsIn, laidOut, spansOf, spansLaidOut}
-use Rattle.products.proofs.TablePlaces.{ball-equal}
+use Rattle.laws.proofs.Passages.RowRead.{length-row-balls}
+use Rattle.model.specs.Rows.{ballIn, ballsIn, ballsOf, laidOut, spansOf, spansLaidOut, rowIn}
+use Rattle.laws.proofs.Steps.Tables.{ball-equal}
 
 -- the balls f 0, .., f (n - 1) stored in arrays of zeros
 pub stored-laid-out : (n : ℕ) (f : ℕ → Ball) → n ≤ most-quantities → {values : List ℤ} {radii : List ℕ} → values ≡ sets (replicate most-quantities (pos 0)) 0 (tabulate n (λ i. f i .value)) → radii ≡ sets (replicate most-quantities 0) 0 (tabulate n (λ i. f i .radius)) → record { values = values; radii = radii } ≡ laidOut (tabulate n f)
@@ -56,3 +58,7 @@ spans-laid-out n spans len = tabulate-is n _ no-span spans len each
 
     each : (i : ℕ) → i < n → record { low = getD (spansLaidOut spans .lows) i (pos 0); high = getD (spansLaidOut spans .highs) i (pos 0) } ≡ getD spans i no-span
     each i h = λ t. record { low = low-at i h t; high = high-at i h t }
+
+-- the balls of a row in a buffer, laid out
+pub row-laid-out : (n : ℕ) (rows : List ℤ) (j : ℕ) {balls : Balls} → balls ≡ laidOut (rowIn n rows j .balls) → ballsOf n balls ≡ rowIn n rows j .balls
+row-laid-out n rows j e = ap (ballsOf n) e ∙ balls-laid-out n (rowIn n rows j .balls) (length-row-balls n rows j)
