@@ -1,4 +1,4 @@
--- The range of a row's numbers, which the functions that print ask. Every row of a passage has it (proofs/RowRange.antt).
+-- The range of a row's numbers, which every row of a passage has (proofs/RowRange.antt).
 use Prim.Native.Nat.{ℕ, _*_, _≤_, _<_}
 use mathlib.Core.List.{List}
 use lib.IntN.{ℤ, natAbs}
@@ -15,7 +15,7 @@ most-value = 3 * most
 abbrev pub most-span : ℕ
 most-span = 4 * most
 
--- What the functions that print ask of a row, so that no number has more than ten digits. Every row of a passage has it (proofs/RowRange.antt).
+-- What the functions that print ask of a row: so no number has more than ten digits.
 pub record Printable (row : Row) : Type 0 where
   pub degree : row .degree ≤ most-degree
   pub values : (i : ℕ) → i < length (row .balls) → natAbs (getD (row .balls) i no-ball .value) ≤ most-value

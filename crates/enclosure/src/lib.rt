@@ -1,1 +1,1 @@
-// No code: specs/ has definitions, proofs/ what is proved of them.
+// No code: the exact sum and what is claimed over it (specs/), and why it holds (proofs/).

@@ -1,6 +1,6 @@
 -- What the functions of one step ask of the terms, the step and the balls that they are handed, so that no working number leaves 64 bits. A sheet
--- that passes question 3 has it, of its terms as read and gathered (proofs/SheetBounds.antt, GatheredBounds.antt), and questions 4 and 5 give the
--- rest.
+-- that passes question 3 has it, of its terms as read and gathered (proofs/Bounds/SheetBounds.antt, proofs/Gathering/GatheredBounds.antt), and
+-- questions 4 and 5 give the rest.
 use Prim.Native.Nat.{ℕ, _*_, _≤_, _<_}
 use mathlib.Core.List.{List}
 use mathlib.Core.Path.{_≡_}

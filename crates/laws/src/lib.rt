@@ -1,1 +1,1 @@
-// No code: specs/ has definitions, proofs/ what is proved of them.
+// No code: what is proved of `model`'s definitions (proofs/), and what the functions of a step ask (specs/).

@@ -1,1 +1,1 @@
-// No code: specs/ has definitions, proofs/ what is proved of them.
+// No code: sums, lists and searches over 0 .. n - 1 (specs/), with their laws (proofs/).

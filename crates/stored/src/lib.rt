@@ -1,1 +1,1 @@
-// No code: specs/ has definitions, proofs/ what is proved of them.
+// No code: what stored sheets are converted to (specs/), and what is proved of it (proofs/).
