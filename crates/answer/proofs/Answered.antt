@@ -29,10 +29,10 @@ use Rattle.enclosure.proofs.Trusted.{passage-trusted}
 use Rattle.laws.proofs.Bounds.SheetBounds.{Counts, counts-of-sheet}
 use Rattle.answer.specs.declared.Ended.{Ended}
 use Rattle.rows.specs.Room.{HasRows}
-use Rattle.decimal.specs.Pieces.{Printed}
-use Rattle.decimal.proofs.Pieces.{printed-whole}
-use Rattle.text.specs.AnswerLength.{most-answer}
-use Rattle.text.proofs.AnswerLength.{length-run}
+use Rattle.printing.specs.Pieces.{Printed}
+use Rattle.printing.proofs.Pieces.{printed-whole}
+use Rattle.printing.specs.AnswerLength.{most-answer}
+use Rattle.printing.proofs.AnswerLength.{length-run}
 use Rattle.answer.specs.Answered.{runLent, endedOf, Ran, TrustedLent, SpannedLent, TrustedText, FrontOf, AnswersAlike}
 
 -- ---- the sheet that is read

@@ -12,7 +12,7 @@ use Rattle.model.specs.Reading.{readSheet}
 use Rattle.model.specs.Sheet.{result, refusedStep}
 use Rattle.enclosure.specs.Trust.{TrustedOf, SpannedOf}
 use Rattle.model.specs.declared.Outcome.the-variants.{Accepted, Refused}
-use Rattle.decimal.specs.Pieces.{Printed}
+use Rattle.printing.specs.Pieces.{Printed}
 use Rattle.answer.specs.declared.Ended.{Ended}
 
 -- a sheet's passage, or its refusal and no row. With places enough it is `runOf` of document 01 (proofs/Answered.antt).

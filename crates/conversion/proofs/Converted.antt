@@ -38,9 +38,9 @@ use Rattle.enclosure.proofs.RowRange.{passage-step, passage-fits}
 use Rattle.laws.proofs.Text.Verdicts.{few-in-sheet}
 use Rattle.rows.specs.Room.{HasRow}
 use Rattle.rows.proofs.Places.{has-row}
-use Rattle.decimal.specs.Pieces.{Printed}
-use Rattle.decimal.proofs.Pieces.{printed-whole}
-use Rattle.text.proofs.AnswerLength.{length-outcome}
+use Rattle.printing.specs.Pieces.{Printed}
+use Rattle.printing.proofs.Pieces.{printed-whole}
+use Rattle.printing.proofs.AnswerLength.{length-outcome}
 use Rattle.answer.specs.Answered.{FrontOf}
 use Rattle.conversion.specs.Converted.{convertedLent, splitLent, TrustedSplit, SpannedSplit, ConvertedText, ConvertedWith, ConvertsAlike}
 

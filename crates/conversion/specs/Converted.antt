@@ -14,7 +14,7 @@ use Rattle.model.specs.Rows.{width, rowsIn}
 use Rattle.enclosure.specs.Trust.{TrustedOf, SpannedOf}
 use Rattle.stored.specs.Conversion.{firstPart, convertedBy, converted, ComesOut}
 use Rattle.model.specs.declared.Outcome.the-variants.{Accepted, Refused}
-use Rattle.decimal.specs.Pieces.{Printed}
+use Rattle.printing.specs.Pieces.{Printed}
 
 -- what is printed for a stored sheet's bytes. With places enough it is `converted` of document 02 (proofs/Converted.antt).
 unfoldable pub convertedLent : List ℕ → ℕ → List ℕ

@@ -9,7 +9,7 @@ ghost use Rattle.model.specs.Passage.{passage};
 ghost use Rattle.model.specs.Rows.{ballsOf, written};
 ghost use Rattle.stored.specs.Conversion as model;
 ghost use Rattle.answer.specs.Answered.{FrontOf};
-ghost use Rattle.decimal.specs.Pieces.{Put, Printed};
+ghost use Rattle.printing.specs.Pieces.{Put, Printed};
 ghost use Rattle.conversion.specs.Converted.{convertedLent, splitLent, TrustedSplit, SpannedSplit, ConvertedText, ConvertedWith, ConvertsAlike};
 use answer::SHEET_LENGTH;
 use answer::front;

@@ -9,7 +9,7 @@ ghost use lib.IntN.{pos, natAbs};
 ghost use lib.ListN.{length};
 ghost use Rattle.tens.specs.Tens.{entries};
 ghost use Rattle.model.specs.Answer as answer;
-ghost use Rattle.decimal.specs.Pieces.{Put, Room, pair, sign, lineOf};
+ghost use Rattle.printing.specs.Pieces.{Put, Room, pair, sign, lineOf};
 use rounding::magnitude;
 use tens::ENTRIES;
 use tens::power_of_ten;

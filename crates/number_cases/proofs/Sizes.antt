@@ -13,9 +13,9 @@ use Rattle.ranges.specs.Range.{bytes}
 use Rattle.model.specs.Sheet.{most-digits}
 use Rattle.model.specs.Answer.{decimal}
 use Rattle.model.specs.Reading.{Spelled, spelled, wrong, isDigit, digits, natural, negated, signed, after, ended}
-use Rattle.decimal.specs.Pieces.{Put, Room, lineOf}
+use Rattle.printing.specs.Pieces.{Put, Room, lineOf}
 use Rattle.laws.proofs.Text.DecimalText.{length-signed}
-use Rattle.decimal.proofs.Pieces.{put-keeps-length}
+use Rattle.printing.proofs.Pieces.{put-keeps-length}
 use Rattle.lines.specs.Places.{spelling, lineAfter}
 use Rattle.lines.proofs.Spellings.{digit-range}
 

@@ -5,7 +5,7 @@
 ghost use Prim.Native.Nat.{_^_, _≤_, _<_};
 ghost use lib.IntN.{natAbs};
 ghost use lib.ListN.{length};
-ghost use Rattle.decimal.specs.Pieces.{Room, lineOf};
+ghost use Rattle.printing.specs.Pieces.{Room, lineOf};
 use decimal::put_line;
 use libc::STDOUT_FILENO;
 use lines::Cursor;

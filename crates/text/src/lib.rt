@@ -11,8 +11,8 @@ ghost use Rattle.enclosure.specs.RowRange.{most-value, most-span, Printable, Ro
 ghost use Rattle.model.specs.Rows.{rowIn, rowsIn};
 ghost use Rattle.model.specs.Answer as answer;
 ghost use Rattle.rows.specs.Room.{HasRow, HasRows};
-ghost use Rattle.decimal.specs.Pieces.{Put, Printed};
-ghost use Rattle.text.specs.AnswerLength.{value-digits, most-ball, most-span-lines, most-quantity, most-row};
+ghost use Rattle.printing.specs.Pieces.{Put, Printed};
+ghost use Rattle.printing.specs.AnswerLength.{value-digits, most-ball, most-span-lines, most-quantity, most-row};
 use decimal::ENDS;
 use decimal::put_front;
 use decimal::put_line;

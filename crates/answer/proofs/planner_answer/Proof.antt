@@ -2,7 +2,7 @@
 use mathlib.Core.List.{List}
 use mathlib.Core.Path.{subst}
 use Prim.Native.Nat.{ℕ}
-use Rattle.decimal.specs.Pieces.{Printed}
+use Rattle.printing.specs.Pieces.{Printed}
 use Rattle.answer.proofs.Answered.{ran-text, ran-bounds, ran-in-range, ran-step, ran-short, ran-trusted, ran-spanned}
 use borrow.Author.Needs.{needs}
 use Rattle.answer.proofs.planner_answer.Statement.{statement}

@@ -5,7 +5,7 @@ use mathlib.Core.Path.{refl, subst}
 use borrow.Author.Tests.{leb-true}
 use Rattle.model.specs.Sheet.{most-quantities, most-steps}
 use Rattle.model.specs.Rows.{width}
-use Rattle.decimal.specs.Pieces.{Printed}
+use Rattle.printing.specs.Pieces.{Printed}
 use Rattle.conversion.proofs.Converted.{most-are-enough, text-comes-out}
 use borrow.Author.Needs.{needs}
 use Rattle.conversion.proofs.convert_sheet.Statement.{statement}

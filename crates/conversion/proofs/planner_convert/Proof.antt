@@ -2,7 +2,7 @@
 use native.Mathlib.Omega.{arith}
 use lib.ListN.{length}
 use borrow.Author.Needs.{needs}
-use Rattle.decimal.proofs.Pieces.{put-same, put-printed}
+use Rattle.printing.proofs.Pieces.{put-same, put-printed}
 use Rattle.conversion.proofs.Converted.{length-refused, refused-printed, refused-unwritten, refused-early, read-passes, read-fits, short-printed, short-unwritten, long-printed, long-written, split-trusted, split-spanned, lent-comes-out}
 use Rattle.conversion.proofs.planner_convert.Statement.{statement}
 use Rattle.conversion.proofs.planner_convert.Tie as tie

@@ -15,10 +15,10 @@ use Rattle.model.specs.declared.Ball.{Ball}
 use Rattle.model.specs.declared.Refusal.the-variants.{TooLarge}
 use Rattle.model.specs.declared.Outcome.the-variants.{Refused}
 use Rattle.laws.proofs.Passages.RowPlaces.{length-balls}
-use Rattle.decimal.specs.Pieces.{Put}
-use Rattle.decimal.proofs.Pieces.{put-then, put-same}
+use Rattle.printing.specs.Pieces.{Put}
+use Rattle.printing.proofs.Pieces.{put-then, put-same}
 use Rattle.taylor.proofs.Answers.{small-is}
-use Rattle.sheet_text.specs.SheetLength.{most-sheet}
+use Rattle.printing.specs.SheetLength.{most-sheet}
 use Rattle.stored.proofs.Conversion.{first-passes, second-passes}
 use Rattle.laws.proofs.Text.Verdicts.{few-in-sheet as few}
 use Rattle.conversion.proofs.Converted.{parts-refused, parts-printed, length-refused}

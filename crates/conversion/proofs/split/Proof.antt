@@ -2,7 +2,7 @@
 use native.Mathlib.Omega.{arith}
 use borrow.Author.Needs.{needs}
 use Rattle.model.specs.Sheet.{stored-steps}
-use Rattle.decimal.proofs.Pieces.{put-same}
+use Rattle.printing.proofs.Pieces.{put-same}
 use Rattle.laws.proofs.Text.Verdicts.{few-in-sheet as few}
 use Rattle.laws.proofs.Passages.LaidOut.{row-laid-out}
 use Rattle.conversion.proofs.Converted.{kept-written, kept-early, kept-refused, kept-last, kept-accepted, length-refused}

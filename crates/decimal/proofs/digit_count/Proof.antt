@@ -7,7 +7,7 @@ use lib.ListN.{length}
 use Rattle.model.specs.Answer.{decimal}
 use Rattle.tens.specs.Tens.{entries}
 use Rattle.laws.proofs.Text.DecimalText.{length-below}
-use Rattle.decimal.proofs.Decimal.{length-some, length-from}
+use Rattle.printing.proofs.Decimal.{length-some, length-from}
 use Rattle.decimal.proofs.digit_count.Statement.{statement}
 use Rattle.decimal.proofs.digit_count.Tie as tie
 

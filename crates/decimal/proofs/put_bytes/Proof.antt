@@ -4,8 +4,8 @@ use native.Mathlib.Numerals.{add-one}
 use native.Mathlib.Omega.{arith}
 use lib.ListN.{length, take}
 use lib.Seq.{take-suc, take-all, length-take-le}
-use Rattle.decimal.specs.Pieces.{Put}
-use Rattle.decimal.proofs.Pieces.{put-nothing, put-then, put-same, put-keeps-length}
+use Rattle.printing.specs.Pieces.{Put}
+use Rattle.printing.proofs.Pieces.{put-nothing, put-then, put-same, put-keeps-length}
 use Rattle.decimal.proofs.put_bytes.Statement.{statement}
 use Rattle.decimal.proofs.put_bytes.Tie as tie
 

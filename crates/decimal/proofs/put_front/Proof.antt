@@ -5,7 +5,7 @@ use native.Mathlib.Omega.{arith}
 use lib.ListN.{length}
 use lib.Seq.{length-take-le}
 use borrow.Author.Needs.{needs}
-use Rattle.decimal.proofs.Pieces.{put-front, put-past}
+use Rattle.printing.proofs.Pieces.{put-front, put-past}
 use Rattle.decimal.proofs.put_front.Statement.{statement}
 use Rattle.decimal.proofs.put_front.Tie as tie
 

@@ -9,9 +9,9 @@ use mir.Facts.{toZ-ofZ}
 use Rattle.rounding.proofs.Machine.{magnitude-is}
 use Rattle.ranges.specs.Range.{bytes}
 use Rattle.model.specs.Answer.{decimal}
-use Rattle.decimal.specs.Pieces.{Put, Room, sign, lineOf}
-use Rattle.decimal.proofs.Decimal.{decimal-signed}
-use Rattle.decimal.proofs.Pieces.{put-then, put-same, room-first, room-rest, room-same}
+use Rattle.printing.specs.Pieces.{Put, Room, sign, lineOf}
+use Rattle.printing.proofs.Decimal.{decimal-signed}
+use Rattle.printing.proofs.Pieces.{put-then, put-same, room-first, room-rest, room-same}
 use Rattle.decimal.proofs.put_line.Statement.{statement}
 use Rattle.decimal.proofs.put_line.Tie as tie
 

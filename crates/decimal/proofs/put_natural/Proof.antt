@@ -7,9 +7,9 @@ use lib.IntN.{pos}
 use lib.ListN.{length, length-append}
 use Rattle.model.specs.Answer.{digit, decimal}
 use Rattle.laws.proofs.Text.DecimalText.{decimal-digit}
-use Rattle.decimal.specs.Pieces.{Put, Room, pair}
-use Rattle.decimal.proofs.Decimal.{decimal-pair, decimal-pairs, length-from}
-use Rattle.decimal.proofs.Pieces.{put-nothing, put-before, put-same, put-keeps-length, room-same}
+use Rattle.printing.specs.Pieces.{Put, Room, pair}
+use Rattle.printing.proofs.Decimal.{decimal-pair, decimal-pairs, length-from}
+use Rattle.printing.proofs.Pieces.{put-nothing, put-before, put-same, put-keeps-length, room-same}
 use Rattle.decimal.proofs.put_natural.Statement.{statement}
 use Rattle.decimal.proofs.put_natural.Tie as tie
 

@@ -5,8 +5,8 @@ use mathlib.Core.List.{List, [], _∷_}
 use native.Mathlib.Omega.{arith}
 use borrow.Author.Needs.{needs}
 use Rattle.model.specs.Answer.{digit}
-use Rattle.decimal.specs.Pieces.{Put, pair}
-use Rattle.decimal.proofs.Pieces.{put-then}
+use Rattle.printing.specs.Pieces.{Put, pair}
+use Rattle.printing.proofs.Pieces.{put-then}
 use Rattle.decimal.proofs.put_pair.Statement.{statement}
 use Rattle.decimal.proofs.put_pair.Tie as tie
 

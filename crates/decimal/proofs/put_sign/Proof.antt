@@ -2,8 +2,8 @@
 use mathlib.Core.Path.{sym}
 use borrow.Author.Needs.{needs}
 use Rattle.rounding.proofs.Machine.{sign-test}
-use Rattle.decimal.proofs.Decimal.{sign-minus, sign-none}
-use Rattle.decimal.proofs.Pieces.{put-nothing, put-same, room-same}
+use Rattle.printing.proofs.Decimal.{sign-minus, sign-none}
+use Rattle.printing.proofs.Pieces.{put-nothing, put-same, room-same}
 use Rattle.decimal.proofs.put_sign.Statement.{statement}
 use Rattle.decimal.proofs.put_sign.Tie as tie
 

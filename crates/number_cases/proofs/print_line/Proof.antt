@@ -6,8 +6,8 @@ use lib.IntN.{ℤ}
 use lib.ListN.{length}
 use lib.Seq.{length-take-le}
 use mir.Facts.{toZ-ofZ}
-use Rattle.decimal.specs.Pieces.{lineOf}
-use Rattle.decimal.proofs.Pieces.{put-same}
+use Rattle.printing.specs.Pieces.{lineOf}
+use Rattle.printing.proofs.Pieces.{put-same}
 use Rattle.number_cases.proofs.Sizes.{put-inside}
 use Rattle.number_cases.proofs.print_line.Statement.{statement}
 use Rattle.number_cases.proofs.print_line.Tie as tie

@@ -10,10 +10,10 @@ use Rattle.ranges.specs.Range.{bytes}
 use Rattle.model.specs.Answer.{printed}
 use Rattle.stored.specs.Conversion.{headText}
 use Rattle.model.specs.declared.Head.{Head}
-use Rattle.decimal.specs.Pieces.{Put, Room}
-use Rattle.decimal.proofs.LineLength.{natural-fits, line-asked, line-put, whole-asked, whole-put}
-use Rattle.decimal.proofs.Pieces.{put-then, room-first, room-rest}
-use Rattle.sheet_text.proofs.SheetLength.{HeadShort, head-short, length-head}
+use Rattle.printing.specs.Pieces.{Put, Room}
+use Rattle.printing.proofs.LineLength.{natural-fits, line-asked, line-put, whole-asked, whole-put}
+use Rattle.printing.proofs.Pieces.{put-then, room-first, room-rest}
+use Rattle.printing.proofs.SheetLength.{HeadShort, head-short, length-head}
 use Rattle.sheet_text.proofs.put_head.Statement.{statement}
 use Rattle.sheet_text.proofs.put_head.Tie as tie
 

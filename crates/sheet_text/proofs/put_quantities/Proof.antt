@@ -9,10 +9,10 @@ use Rattle.model.specs.Sheet.{quantityVerdict, quantitiesVerdict, no-quantity}
 use Rattle.stored.specs.Conversion.{quantityText}
 use Rattle.model.specs.declared.Quantity.{Quantity}
 use Rattle.laws.proofs.Text.Verdicts.{each-passes}
-use Rattle.decimal.specs.Pieces.{Put}
-use Rattle.decimal.proofs.Pieces.{Grows, put-nothing, put-turn, put-same, put-keeps-length}
-use Rattle.sheet_text.specs.SheetLength.{most-quantity}
-use Rattle.sheet_text.proofs.TextsInOrder.{pieces-grow}
+use Rattle.printing.specs.Pieces.{Put}
+use Rattle.printing.proofs.Pieces.{Grows, put-nothing, put-turn, put-same, put-keeps-length}
+use Rattle.printing.specs.SheetLength.{most-quantity}
+use Rattle.printing.proofs.TextsInOrder.{pieces-grow}
 use Rattle.sheet_text.proofs.put_quantities.Statement.{statement}
 use Rattle.sheet_text.proofs.put_quantities.Tie as tie
 

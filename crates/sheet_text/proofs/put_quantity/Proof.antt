@@ -6,10 +6,10 @@ use lib.IntN.{pos}
 use Rattle.ranges.specs.Range.{bytes}
 use Rattle.model.specs.Answer.{printed}
 use Rattle.stored.specs.Conversion.{startText, quantityText}
-use Rattle.decimal.specs.Pieces.{Put, Room}
-use Rattle.decimal.proofs.LineLength.{natural-fits, line-asked, line-put}
-use Rattle.decimal.proofs.Pieces.{put-then, room-rest}
-use Rattle.sheet_text.proofs.SheetLength.{QuantityShort, quantity-short, length-quantity}
+use Rattle.printing.specs.Pieces.{Put, Room}
+use Rattle.printing.proofs.LineLength.{natural-fits, line-asked, line-put}
+use Rattle.printing.proofs.Pieces.{put-then, room-rest}
+use Rattle.printing.proofs.SheetLength.{QuantityShort, quantity-short, length-quantity}
 use Rattle.sheet_text.proofs.put_quantity.Statement.{statement}
 use Rattle.sheet_text.proofs.put_quantity.Tie as tie
 

@@ -6,7 +6,7 @@ use borrow.Author.Needs.{needs}
 use lib.ListN.{length, take}
 use lib.Seq.{length-take-le}
 use Rattle.stored.specs.Conversion.{sheetText}
-use Rattle.decimal.proofs.Pieces.{put-same, put-keeps-length, put-taken}
+use Rattle.printing.proofs.Pieces.{put-same, put-keeps-length, put-taken}
 use Rattle.sheet_text.proofs.put_sheet.Statement.{statement}
 use Rattle.sheet_text.proofs.put_sheet.Tie as tie
 

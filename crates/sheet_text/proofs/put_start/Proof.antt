@@ -10,10 +10,10 @@ use Rattle.model.specs.Answer.{printed}
 use Rattle.stored.specs.Conversion.{startText}
 use Rattle.model.specs.declared.Start.{Start}
 use Rattle.model.specs.declared.Start.the-variants.{Reading, Missing}
-use Rattle.decimal.specs.Pieces.{Room}
-use Rattle.decimal.proofs.LineLength.{whole-asked, whole-put}
-use Rattle.decimal.proofs.Pieces.{put-same, room-same}
-use Rattle.sheet_text.proofs.SheetLength.{start-short, length-start}
+use Rattle.printing.specs.Pieces.{Room}
+use Rattle.printing.proofs.LineLength.{whole-asked, whole-put}
+use Rattle.printing.proofs.Pieces.{put-same, room-same}
+use Rattle.printing.proofs.SheetLength.{start-short, length-start}
 use Rattle.sheet_text.proofs.put_start.Statement.{statement}
 use Rattle.sheet_text.proofs.put_start.Tie as tie
 

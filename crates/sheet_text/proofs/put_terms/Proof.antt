@@ -8,10 +8,10 @@ use Rattle.ranges.specs.Range.{tabulate}
 use Rattle.model.specs.Sheet.{no-term}
 use Rattle.stored.specs.Conversion.{termText}
 use Rattle.model.specs.declared.Term.{Term}
-use Rattle.decimal.specs.Pieces.{Put}
-use Rattle.decimal.proofs.Pieces.{Grows, put-nothing, put-turn, put-same, put-keeps-length}
-use Rattle.sheet_text.specs.SheetLength.{most-term}
-use Rattle.sheet_text.proofs.TextsInOrder.{pieces-grow}
+use Rattle.printing.specs.Pieces.{Put}
+use Rattle.printing.proofs.Pieces.{Grows, put-nothing, put-turn, put-same, put-keeps-length}
+use Rattle.printing.specs.SheetLength.{most-term}
+use Rattle.printing.proofs.TextsInOrder.{pieces-grow}
 use Rattle.sheet_text.proofs.put_terms.Statement.{statement}
 use Rattle.sheet_text.proofs.put_terms.Tie as tie
 

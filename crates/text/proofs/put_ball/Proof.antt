@@ -12,11 +12,11 @@ use mir.Facts.{toZ-ofZ}
 use Rattle.ranges.specs.Range.{bytes}
 use Rattle.model.specs.Sheet.{most}
 use Rattle.model.specs.Answer.{printed}
-use Rattle.decimal.specs.Pieces.{Room}
-use Rattle.decimal.proofs.LineLength.{natural-fits, of-bits}
-use Rattle.decimal.proofs.Pieces.{put-then, put-same, room-first, room-rest, room-same}
-use Rattle.text.specs.AnswerLength.{value-digits, most-ball}
-use Rattle.text.proofs.AnswerLength.{length-ball}
+use Rattle.printing.specs.Pieces.{Room}
+use Rattle.printing.proofs.LineLength.{natural-fits, of-bits}
+use Rattle.printing.proofs.Pieces.{put-then, put-same, room-first, room-rest, room-same}
+use Rattle.printing.specs.AnswerLength.{value-digits, most-ball}
+use Rattle.printing.proofs.AnswerLength.{length-ball}
 use Rattle.text.proofs.put_ball.Statement.{statement}
 use Rattle.text.proofs.put_ball.Tie as tie
 

@@ -10,11 +10,11 @@ use lib.Seq.{length-take-le}
 use Rattle.ranges.specs.Range.{tabulate, bytes}
 use Rattle.model.specs.Answer.{printed, outcomeText}
 use Rattle.ranges.proofs.Ranges.{length-tabulate}
-use Rattle.decimal.specs.Pieces.{Put}
-use Rattle.decimal.proofs.LineLength.{natural-fits, line-asked, line-put}
-use Rattle.decimal.proofs.Pieces.{put-then, put-same, put-keeps-length, put-taken, room-first, room-rest}
-use Rattle.text.specs.AnswerLength.{most-outcome}
-use Rattle.text.proofs.AnswerLength.{result-short, length-outcome}
+use Rattle.printing.specs.Pieces.{Put}
+use Rattle.printing.proofs.LineLength.{natural-fits, line-asked, line-put}
+use Rattle.printing.proofs.Pieces.{put-then, put-same, put-keeps-length, put-taken, room-first, room-rest}
+use Rattle.printing.specs.AnswerLength.{most-outcome}
+use Rattle.printing.proofs.AnswerLength.{result-short, length-outcome}
 use Rattle.text.proofs.put_outcome.Statement.{statement}
 use Rattle.text.proofs.put_outcome.Tie as tie
 

@@ -14,10 +14,10 @@ use Rattle.model.specs.Rows.{rowIn}
 use Rattle.model.specs.Answer.{printed, quantitiesText}
 use Rattle.model.specs.declared.Ball.{Ball}
 use Rattle.model.specs.declared.Span.{Span}
-use Rattle.decimal.specs.Pieces.{Put}
-use Rattle.decimal.proofs.Pieces.{Grows, put-nothing, put-then, put-turn, put-same, put-keeps-length}
-use Rattle.text.specs.AnswerLength.{value-digits, most-quantity}
-use Rattle.text.proofs.Lines.{quantityLines, quantities-grow}
+use Rattle.printing.specs.Pieces.{Put}
+use Rattle.printing.proofs.Pieces.{Grows, put-nothing, put-then, put-turn, put-same, put-keeps-length}
+use Rattle.printing.specs.AnswerLength.{value-digits, most-quantity}
+use Rattle.printing.proofs.Lines.{quantityLines, quantities-grow}
 use Rattle.laws.proofs.Passages.RowRead.{ballAt, spanAt, length-row-balls, length-row-spans, all-balls, all-spans}
 use Rattle.text.proofs.put_quantities.Statement.{statement}
 use Rattle.text.proofs.put_quantities.Tie as tie

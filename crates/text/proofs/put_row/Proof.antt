@@ -10,9 +10,9 @@ use lib.ListN.{length, length-append}
 use Rattle.ranges.specs.Range.{bytes}
 use Rattle.model.specs.Rows.{rowIn}
 use Rattle.model.specs.Answer.{printed, quantitiesText, rowsText}
-use Rattle.decimal.specs.Pieces.{Put, most-line}
-use Rattle.decimal.proofs.LineLength.{line-asked, line-put, length-natural}
-use Rattle.decimal.proofs.Pieces.{put-then, put-same, put-keeps-length}
+use Rattle.printing.specs.Pieces.{Put, most-line}
+use Rattle.printing.proofs.LineLength.{line-asked, line-put, length-natural}
+use Rattle.printing.proofs.Pieces.{put-then, put-same, put-keeps-length}
 use Rattle.text.proofs.put_row.Statement.{statement}
 use Rattle.text.proofs.put_row.Tie as tie
 

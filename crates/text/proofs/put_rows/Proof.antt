@@ -12,12 +12,12 @@ use Rattle.ranges.specs.Range.{tabulate}
 use Rattle.model.specs.Sheet.{most-quantities}
 use Rattle.model.specs.Rows.{rowIn, rowsIn}
 use Rattle.model.specs.Answer.{rowsText}
-use Rattle.decimal.specs.Pieces.{Put}
-use Rattle.text.specs.AnswerLength.{value-digits, most-row}
+use Rattle.printing.specs.Pieces.{Put}
+use Rattle.printing.specs.AnswerLength.{value-digits, most-row}
 use Rattle.rows.proofs.Places.{has-row}
-use Rattle.decimal.proofs.Pieces.{Grows, put-nothing, put-turn, put-same, put-keeps-length, put-taken}
-use Rattle.text.proofs.AnswerLength.{rows-brief}
-use Rattle.text.proofs.Lines.{rows-grow}
+use Rattle.printing.proofs.Pieces.{Grows, put-nothing, put-turn, put-same, put-keeps-length, put-taken}
+use Rattle.printing.proofs.AnswerLength.{rows-brief}
+use Rattle.printing.proofs.Lines.{rows-grow}
 use Rattle.text.proofs.put_rows.Statement.{statement}
 use Rattle.text.proofs.put_rows.Tie as tie
 

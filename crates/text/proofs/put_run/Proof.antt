@@ -3,9 +3,9 @@ use Prim.Native.Nat.{_*_, _≤_}
 use native.Mathlib.Omega.{arith}
 use Rattle.model.specs.Sheet.{most-quantities, most-steps}
 use Rattle.model.specs.Answer.{runText}
-use Rattle.text.specs.AnswerLength.{value-digits, most-row}
-use Rattle.decimal.proofs.Pieces.{put-then, put-printed}
-use Rattle.text.proofs.AnswerLength.{rows-brief}
+use Rattle.printing.specs.AnswerLength.{value-digits, most-row}
+use Rattle.printing.proofs.Pieces.{put-then, put-printed}
+use Rattle.printing.proofs.AnswerLength.{rows-brief}
 use borrow.Author.Needs.{needs}
 use Rattle.text.proofs.put_run.Statement.{statement}
 use Rattle.text.proofs.put_run.Tie as tie

@@ -12,10 +12,10 @@ use mir.Facts.{toZ-ofZ}
 use Rattle.ranges.specs.Range.{bytes}
 use Rattle.model.specs.Sheet.{most}
 use Rattle.model.specs.Answer.{printed}
-use Rattle.decimal.specs.Pieces.{Room}
-use Rattle.decimal.proofs.Pieces.{put-then, put-same, room-first, room-rest, room-same}
-use Rattle.text.specs.AnswerLength.{most-span-lines}
-use Rattle.text.proofs.AnswerLength.{length-span}
+use Rattle.printing.specs.Pieces.{Room}
+use Rattle.printing.proofs.Pieces.{put-then, put-same, room-first, room-rest, room-same}
+use Rattle.printing.specs.AnswerLength.{most-span-lines}
+use Rattle.printing.proofs.AnswerLength.{length-span}
 use Rattle.text.proofs.put_span.Statement.{statement}
 use Rattle.text.proofs.put_span.Tie as tie
 

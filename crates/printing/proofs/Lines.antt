@@ -12,7 +12,7 @@ use Rattle.model.specs.Answer.{printed, quantitiesText, rowsText}
 use Rattle.model.specs.declared.Ball.{Ball}
 use Rattle.model.specs.declared.Span.{Span}
 use Rattle.ranges.proofs.Ranges.{length-tabulate}
-use Rattle.decimal.proofs.Pieces.{Grows}
+use Rattle.printing.proofs.Pieces.{Grows}
 
 -- the lines of one quantity: of its ball, and of its span
 abbrev pub quantityLines : Ball → Span → List ℕ

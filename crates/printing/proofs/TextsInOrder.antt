@@ -3,7 +3,7 @@ use Prim.Native.Nat.{ℕ}
 use mathlib.Core.Path.{_≡_, sym, ap, _∙_}
 use mathlib.Core.List.{List, [], _∷_, _++_, flatten, append-nil, append-assoc}
 use Rattle.ranges.specs.Range.{tabulate}
-use Rattle.decimal.proofs.Pieces.{Grows}
+use Rattle.printing.proofs.Pieces.{Grows}
 
 flatten-more : (pieces : List (List ℕ)) (piece : List ℕ) → flatten (pieces ++ (piece ∷ [])) ≡ flatten pieces ++ piece
 unfolding flatten

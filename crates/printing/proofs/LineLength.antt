@@ -13,8 +13,8 @@ use Rattle.rounding.proofs.Machine.{sfits-abs}
 use Rattle.ranges.specs.Range.{bytes}
 use Rattle.model.specs.Answer.{decimal, printed}
 use Rattle.laws.proofs.Text.DecimalText.{length-below, length-signed, length-printed}
-use Rattle.decimal.specs.Pieces.{Put, Room, most-line}
-use Rattle.decimal.proofs.Pieces.{put-same}
+use Rattle.printing.specs.Pieces.{Put, Room, most-line}
+use Rattle.printing.proofs.Pieces.{put-same}
 
 -- ---- its length
 

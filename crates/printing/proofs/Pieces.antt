@@ -10,7 +10,7 @@ use lib.ListN.{length, set, take, drop, length-append, take-append-drop, drop-of
 use lib.Seq.{sets, set-out, set-comm, sets-eq, length-sets, take-all, length-take-le, drop-length, take-append-seam, drop-append-seam}
 use Rattle.ranges.proofs.Ranges.{before-or-past}
 use Rattle.ranges.proofs.Stores.{sets-append}
-use Rattle.decimal.specs.Pieces.{Put, Printed, Room}
+use Rattle.printing.specs.Pieces.{Put, Printed, Room}
 
 pub put-nothing : (l : List ℕ) (i : ℕ) → Put l i [] i l
 put-nothing l i = record { counted = omega arith; stored = refl }

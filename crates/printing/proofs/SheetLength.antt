@@ -18,8 +18,8 @@ use Rattle.model.specs.declared.Term.{Term}
 use Rattle.model.specs.declared.Sheet.{Sheet}
 use Rattle.laws.proofs.Text.Verdicts.{both-pass, in-range, signed-magnitude, step-in-range, TermInRange, head-in-range, few-quantities, sheet-in-range}
 use Rattle.laws.proofs.Bounds.SheetBounds.{second-at-most}
-use Rattle.decimal.proofs.LineLength.{length-natural, length-whole}
-use Rattle.sheet_text.specs.SheetLength.{most-head, most-start, most-quantity, most-term, most-sheet, TermShort}
+use Rattle.printing.proofs.LineLength.{length-natural, length-whole}
+use Rattle.printing.specs.SheetLength.{most-head, most-start, most-quantity, most-term, most-sheet, TermShort}
 
 -- ---- the lines above the quantities
 

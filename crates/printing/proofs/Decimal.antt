@@ -13,7 +13,7 @@ use lib.Signed.{ltZ}
 use borrow.Author.Tests.{ltb-true}
 use Rattle.rounding.proofs.Machine.{not-negative}
 use Rattle.model.specs.Answer.{decimal}
-use Rattle.decimal.specs.Pieces.{pair, sign}
+use Rattle.printing.specs.Pieces.{pair, sign}
 use Rattle.ranges.proofs.Ranges.{before-or-past}
 use Rattle.laws.proofs.Text.DecimalText.{decimal-digit, decimal-digits}
 

@@ -1,7 +1,7 @@
 -- A bound on the bytes of an answer, and of its parts: each line has no more digits than its number can have.
 use Prim.Native.Nat.{ℕ, _+_, _-_, _*_}
 use Rattle.model.specs.Sheet.{most-quantities, most-steps}
-use Rattle.decimal.specs.Pieces.{most-line}
+use Rattle.printing.specs.Pieces.{most-line}
 
 -- the digits of a value that question 4 has let pass ..
 abbrev pub passed-digits : ℕ

@@ -23,9 +23,9 @@ use Rattle.ranges.proofs.Lists.{Each, none, entry-first}
 use Rattle.laws.proofs.Passages.RowPlaces.{Wide}
 use Rattle.laws.proofs.Passages.RowsOfPassage.{AllButLast, empty, last, earlier}
 use Rattle.enclosure.proofs.RowRange.{Passed}
-use Rattle.decimal.proofs.LineLength.{length-natural, length-whole}
-use Rattle.text.specs.AnswerLength.{passed-digits, value-digits, most-ball, span-digits, most-span-lines, most-quantity, most-row, most-outcome, most-answer}
-use Rattle.text.proofs.Lines.{quantityLines, quantity-first, rows-append}
+use Rattle.printing.proofs.LineLength.{length-natural, length-whole}
+use Rattle.printing.specs.AnswerLength.{passed-digits, value-digits, most-ball, span-digits, most-span-lines, most-quantity, most-row, most-outcome, most-answer}
+use Rattle.printing.proofs.Lines.{quantityLines, quantity-first, rows-append}
 
 pub length-ball : (digits : ℕ) (value : ℤ) (radius : ℕ) → 0 < digits → natAbs value < 10 ^ digits → radius ≤ most → length (printed "value" value ++ printed "radius" (pos radius)) ≤ most-ball digits
 unfolding bytes most

@@ -3,7 +3,7 @@ use Prim.Native.Nat.{ℕ, _+_, _*_, _≤_}
 use lib.IntN.{natAbs}
 use Rattle.model.specs.Sheet.{most-quantities, most-terms, most-coef}
 use Rattle.model.specs.declared.Term.{Term}
-use Rattle.decimal.specs.Pieces.{most-line}
+use Rattle.printing.specs.Pieces.{most-line}
 
 -- n, of one digit, the steps, of three, the step, of eight and a sign, the tail, of eight, and the tolerance, of nine
 abbrev pub most-head : ℕ

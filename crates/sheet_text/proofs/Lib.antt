@@ -1,2 +1,0 @@
-mod SheetLength
-mod TextsInOrder
