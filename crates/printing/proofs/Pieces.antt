@@ -51,6 +51,10 @@ put-past {a} {x} {i} h = record { counted = refl; stored = sym (sets-past a i x 
 -- ---- what a text that was printed says
 
 module _ {before text after : List ℕ} {count : ℕ} (p : Printed before text count after) where
+  -- where it does not fit, as much of it stands there as there is room for
+  pub printed-cut : length before ≤ length text → after ≡ take (length before) text
+  printed-cut h = rw (p .held, drop-of-length-le before h) (append-nil (take (length before) text))
+
   -- where it fits, what stood behind it stands there still ..
   pub printed-rest : length text ≤ length before → drop count after ≡ drop count before
   printed-rest h =
@@ -60,10 +64,6 @@ module _ {before text after : List ℕ} {count : ℕ} (p : Printed before text c
   pub printed-whole : length text ≤ length before → take count after ≡ text
   printed-whole h =
       ap (λ (l : List ℕ). take count l) (p .held) ∙ rw (p .counted, take-all (length before) text h) (take-append-seam text (drop (length text) before))
-
-  -- where it does not, as much of it as there is room for
-  pub printed-cut : length before ≤ length text → after ≡ take (length before) text
-  printed-cut h = rw (p .held, drop-of-length-le before h) (append-nil (take (length before) text))
 
   -- these are the one count and the one buffer
   pub printed-once : {other : List ℕ} {length : ℕ} → Printed before text length other → (count ≡ length) × (after ≡ other)
