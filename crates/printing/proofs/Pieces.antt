@@ -53,7 +53,8 @@ put-past {a} {x} {i} h = record { counted = refl; stored = sym (sets-past a i x 
 module _ {before text after : List ℕ} {count : ℕ} (p : Printed before text count after) where
   -- where it does not fit, as much of it stands there as there is room for
   pub printed-cut : length before ≤ length text → after ≡ take (length before) text
-  printed-cut h = rw (p .held, drop-of-length-le before h) (append-nil (take (length before) text))
+  printed-cut h =
+      p .held ∙ ap (λ (l : List ℕ). take (length before) text ++ l) (drop-of-length-le before h) ∙ append-nil (take (length before) text)
 
   -- where it fits, what stood behind it stands there still ..
   pub printed-rest : length text ≤ length before → drop count after ≡ drop count before
