@@ -42,7 +42,8 @@ use Rattle.printing.specs.Pieces.{Printed}
 use Rattle.printing.proofs.Pieces.{printed-whole}
 use Rattle.printing.proofs.AnswerLength.{length-outcome}
 use Rattle.answer.specs.Answered.{FrontOf}
-use Rattle.conversion.specs.Converted.{convertedLent, splitLent, TrustedSplit, SpannedSplit, ConvertedText, ConvertedWith, ConvertsAlike}
+use Rattle.stored.specs.Lent.{convertedLent, splitLent}
+use Rattle.conversion.specs.Converted.{TrustedSplit, SpannedSplit, ConvertedText, ConvertedWith, ConvertsAlike}
 
 -- ---- the two parts
 

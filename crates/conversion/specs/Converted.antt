@@ -1,36 +1,16 @@
--- Document 02, the conversion of stored sheets, with so many places lent for the rows of a first part: what is printed, and the run whose rows stand
--- in the buffer.
+-- Document 02, the conversion of stored sheets, in lent buffers: the text that was printed, and the rows of a first part.
 use Prim.Native.Nat.{ℕ, _*_, _≤_, _<_}
-use mathlib.Core.Bool.{true, false}
-use mathlib.Core.List.{List, []}
+use mathlib.Core.List.{List}
 use mathlib.Core.Path.{_≡_}
-use lib.Dec.{leb}
 use lib.IntN.{ℤ}
 use lib.ListN.{length}
 use Rattle.model.specs.Sheet.{most-steps, stored-steps}
 use Rattle.model.specs.Reading.{readSheetTo}
-use Rattle.model.specs.Passage.{Run, refused, passage}
 use Rattle.model.specs.Rows.{width, rowsIn}
 use Rattle.enclosure.specs.Trust.{TrustedOf, SpannedOf}
-use Rattle.stored.specs.Conversion.{firstPart, convertedBy, converted, ComesOut}
-use Rattle.model.specs.declared.Outcome.the-variants.{Accepted, Refused}
+use Rattle.stored.specs.Conversion.{firstPart, converted, ComesOut}
+use Rattle.stored.specs.Lent.{splitLent}
 use Rattle.printing.specs.Pieces.{Printed}
-
--- what is printed for a stored sheet's bytes. With places enough it is `converted` of document 02 (proofs/Converted.antt).
-unfoldable pub convertedLent : List ℕ → ℕ → List ℕ
-convertedLent text places = convertedBy most-steps stored-steps (λ sheet. passage sheet places) text
-
--- the run of its first part, where it has more steps than a passage may have; a refused sheet, or one of no more, runs nothing
-unfoldable pub splitLent : List ℕ → ℕ → Run
-splitLent text places =
-    let read = readSheetTo stored-steps text in
-    elim (read .outcome) [
-      | Refused r step ↦ refused r step
-      | Accepted ↦ elim (leb (read .sheet .head .steps) most-steps) [
-        | true ↦ record { rows = []; outcome = Accepted }
-        | false ↦ passage (firstPart most-steps (read .sheet)) places
-      ]
-    ]
 
 -- The text that was printed is one that the stored sheet comes out as.
 pub record ConvertedText (sheet before : List ℕ) (count : ℕ) (after : List ℕ) : Type 0 where

@@ -1,3 +1,4 @@
--- The conversion of stored sheets, and its worked cases.
+-- The conversion of stored sheets, in general and with places lent, and its worked cases.
 pub mod Conversion
+pub mod Lent
 pub mod Cases
