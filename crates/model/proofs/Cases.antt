@@ -1,6 +1,9 @@
--- Every case of each table comes to what it should, by computation.
-use mathlib.Core.Path.{refl}
-use Rattle.model.specs.Cases.Forms.{Hold, firstRow}
+-- Every case of each table comes to what it should, by computation; and what holds of a table holds of each of its cases.
+use mathlib.Core.List.{List, [], _∷_}
+use mathlib.Core.Path.{_≡_, refl, ap}
+use lib.ListN.{getD, drop}
+use Rattle.ranges.proofs.Lists.{Each, none, entry-first}
+use Rattle.model.specs.Cases.Forms.{Finding, text, Case, Hold, firstRow}
 use Rattle.model.specs.Cases.Sheets.{squares}
 use Rattle.model.specs.Cases.Soundings.{soundings}
 use Rattle.model.specs.Cases.Steps.{steps-taken}
@@ -38,3 +41,9 @@ gathering-holds = refl
 pub numbers-hold : Hold numbers
 unfolding every-definition Hold numbers
 numbers-hold = refl
+
+-- what holds of a table holds of each of its cases
+pub each-holds : (cases : List Case) → Hold cases → Each (λ case. case .0 ≡ case .1) cases
+unfolding Hold
+each-holds [] e = none
+each-holds (case ∷ cases) e = entry-first (ap (λ (findings : List Finding). getD findings 0 (text [])) e) (each-holds cases (ap (drop 1) e))
