@@ -1,4 +1,4 @@
--- Questions one after the other, as outcomes: what an verdictOutcome says of the verdict that it stands for.
+-- Questions one after the other, as outcomes: what the outcome of a verdict says of the verdict.
 use Prim.Native.Nat.{ℕ, zero, suc, _+_, _<_}
 use mathlib.Core.Path.{_≡_, refl, sym, ap, _∙_}
 use mathlib.Core.Bool.{Bool, true, false, not}
