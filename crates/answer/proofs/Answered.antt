@@ -13,7 +13,7 @@ use Rattle.enclosure.specs.RowRange.{RowsPrintable}
 use Rattle.model.specs.Passage.{Run, passage, run, refused, placesNeeded, rowsWritten}
 use Rattle.model.specs.Reading.{readSheet}
 use Rattle.model.specs.Sheet.{most-bytes, most-quantities, most-steps, refusedStep, n-limits, headVerdict, no-head, sheetVerdictTo, sheetVerdict, refuses, no-sheet, inRange, ask, within, from_to_, _then_}
-use Rattle.enclosure.specs.Trust.{TrustedOf, SpannedOf}
+use Rattle.enclosure.specs.Trust.{TrustedOf, SpannedOf, Leaves}
 use Rattle.model.specs.declared.Outcome.{Outcome}
 use Rattle.model.specs.declared.Outcome.the-variants.{Accepted, Refused}
 use Rattle.model.specs.declared.Refusal.{Refusal}
@@ -24,6 +24,7 @@ use Rattle.laws.proofs.Text.Readings.{accepted-is-acceptable, refused-is-zeros,
 use Rattle.laws.proofs.Passages.RowPlaces.{Wide, rows-in-written, places-length, written-length, rows-fit}
 use Rattle.laws.proofs.Passages.RowsOfPassage.{rows-of-passage, passage-refused, passage-runs}
 use Rattle.enclosure.proofs.RowRange.{passage-in-range, passage-earlier, written-in-range, passage-step, passage-few, passage-fits}
+use Rattle.enclosure.proofs.PromisedRows.{rows-leave}
 use Rattle.enclosure.proofs.Spanned.{passage-spanned}
 use Rattle.enclosure.proofs.Trusted.{passage-trusted}
 use Rattle.laws.proofs.Bounds.SheetBounds.{Counts, counts-of-sheet}
@@ -33,7 +34,7 @@ use Rattle.printing.specs.Pieces.{Printed}
 use Rattle.printing.proofs.Pieces.{printed-whole}
 use Rattle.printing.specs.AnswerLength.{most-answer}
 use Rattle.printing.proofs.AnswerLength.{length-run}
-use Rattle.answer.specs.Answered.{runLent, endedOf, Ran, TrustedLent, SpannedLent, TrustedText, FrontOf, AnswersAlike}
+use Rattle.answer.specs.Answered.{runLent, endedOf, Ran, FrontOf, AnswersAlike}
 
 -- ---- the sheet that is read
 
@@ -150,13 +151,14 @@ module _ (sheet : List ℕ) {before after : List ℤ} {ended : Ended} (ran : Ran
   pub ran-short : {before-text after-text : List ℕ} {count : ℕ} → Printed before-text (runText (runLent sheet (length before))) count after-text → count ≤ most-answer
   ran-short p = omega (arith, p .counted, short sheet (length before))
 
-  pub ran-trusted : TrustedLent sheet (length before) after
-  unfolding TrustedLent TrustedOf
-  ran-trusted = rw (ran .buffer, read-back sheet before, rows-are sheet (length before)) (passage-trusted (readSheet sheet .sheet) (length before))
+  pub ran-leaves : Leaves (readSheet sheet .sheet) (runLent sheet (length before)) before after
+  ran-leaves = rows-leave (readSheet sheet .sheet) (runLent sheet (length before)) before (wide sheet (length before)) trusted spanned (ran .buffer)
+    where
+      trusted : TrustedOf (readSheet sheet .sheet) (runLent sheet (length before) .rows)
+      trusted = rw (rows-are sheet (length before)) (passage-trusted (readSheet sheet .sheet) (length before))
 
-  pub ran-spanned : SpannedLent sheet (length before) after
-  unfolding SpannedLent SpannedOf
-  ran-spanned = rw (ran .buffer, read-back sheet before, rows-are sheet (length before)) (passage-spanned (readSheet sheet .sheet) (length before))
+      spanned : SpannedOf (readSheet sheet .sheet) (runLent sheet (length before) .rows)
+      spanned = rw (rows-are sheet (length before)) (passage-spanned (readSheet sheet .sheet) (length before))
 
 -- ---- with places enough, document 01's answer
 
@@ -178,21 +180,17 @@ pub enough-is-answer : (sheet : List ℕ) (lent : ℕ) → most-steps * width mo
 unfolding answer
 enough-is-answer sheet lent enough = ap runText (enough-is-run sheet lent enough)
 
-run-trusted : (sheet : List ℕ) → TrustedOf (readSheet sheet .sheet) (runOf sheet .rows)
+pub answer-trusted : (sheet : List ℕ) → TrustedOf (readSheet sheet .sheet) (runOf sheet .rows)
 unfolding TrustedOf
-run-trusted sheet =
+answer-trusted sheet =
     let places = most-steps * width most-quantities in
     rw (← (enough-is-run sheet places (le-refl places)), rows-are sheet places) (passage-trusted (readSheet sheet .sheet) places)
 
-run-spanned : (sheet : List ℕ) → SpannedOf (readSheet sheet .sheet) (runOf sheet .rows)
+pub answer-spanned : (sheet : List ℕ) → SpannedOf (readSheet sheet .sheet) (runOf sheet .rows)
 unfolding SpannedOf
-run-spanned sheet =
+answer-spanned sheet =
     let places = most-steps * width most-quantities in
     rw (← (enough-is-run sheet places (le-refl places)), rows-are sheet places) (passage-spanned (readSheet sheet .sheet) places)
-
-pub text-trusted : (sheet : List ℕ) {before after : List ℕ} {count : ℕ} → Printed before (answer sheet) count after → TrustedText sheet before count after
-unfolding answer
-text-trusted sheet p = record { run = runOf sheet; printed = p; trusted = run-trusted sheet; spanned = run-spanned sheet }
 
 -- ---- an input of which the front was read
 
@@ -220,14 +218,10 @@ alike-by-front room input bytes enough e = answer-by-reading (sym (read-from-fro
 
 -- ---- what the promises say
 
--- a text that fits and is trusted is that of rows of which demand 3 holds, and what is said of the water between them
-pub trusted-stands : {sheet before after : List ℕ} {count : ℕ} (t : TrustedText sheet before count after) → length (runText (t .run)) ≤ length before → (take count after ≡ runText (t .run)) × TrustedOf (readSheet sheet .sheet) (t .run .rows) × SpannedOf (readSheet sheet .sheet) (t .run .rows)
-trusted-stands t h = (printed-whole (t .printed) h, t .trusted, t .spanned)
-
--- what is said of the rows in a lent buffer, whatever stands there: both, of as many rows as the run has
-pub lent-stands : (sheet : List ℕ) (places : ℕ) (after : List ℤ) → TrustedLent sheet places after → SpannedLent sheet places after → let rows = rowsIn (readSheet sheet .sheet .head .n) (length (runLent sheet places .rows)) after in TrustedOf (readSheet sheet .sheet) rows × SpannedOf (readSheet sheet .sheet) rows
-unfolding TrustedLent SpannedLent
-lent-stands sheet places after trusted spanned = (trusted, spanned)
+-- an answer that fits stands at the text's start, and is the text of the rows of which demand 3 holds
+pub answer-stands : (sheet : List ℕ) {before after : List ℕ} {count : ℕ} → Printed before (answer sheet) count after → length (answer sheet) ≤ length before → take count after ≡ runText (runOf sheet)
+unfolding answer
+answer-stands sheet printed h = printed-whole printed h
 
 -- two inputs that are answered alike have one answer
 pub alike-answers : {one other : List ℕ} → AnswersAlike one other → answer one ≡ answer other

@@ -1,18 +1,15 @@
--- What comes of a sheet's bytes, with so many places lent for the rows: the answer, the rows in the buffer, and demand 3 and the
--- water between the rows of them.
+-- What comes of a sheet's bytes, with so many places lent for the rows, and of an input of any length.
 use Prim.Native.Nat.{ℕ}
 use mathlib.Core.List.{List, [], _∷_}
 use mathlib.Core.Path.{_≡_}
 use lib.IntN.{ℤ}
 use lib.ListN.{length, take}
-use Rattle.model.specs.Answer.{runText, answer}
-use Rattle.model.specs.Rows.{written, rowsIn}
+use Rattle.model.specs.Answer.{answer}
+use Rattle.model.specs.Rows.{written}
 use Rattle.model.specs.Passage.{Run, refused, passage}
 use Rattle.model.specs.Reading.{readSheet}
 use Rattle.model.specs.Sheet.{result, refusedStep}
-use Rattle.enclosure.specs.Trust.{TrustedOf, SpannedOf}
 use Rattle.model.specs.declared.Outcome.the-variants.{Accepted, Refused}
-use Rattle.printing.specs.Pieces.{Printed}
 use Rattle.answer.specs.declared.Ended.{Ended}
 
 -- a sheet's passage, or its refusal and no row. With places enough it is `runOf` of document 01 (proofs/Answered.antt).
@@ -39,27 +36,6 @@ summary-length = 4
 -- the same as so many numbers: result, refused step, quantities, rows
 unfoldable pub summaryOf : Ended → List ℕ
 summaryOf ended = result (ended .outcome) ∷ refusedStep (ended .outcome) ∷ ended .n ∷ ended .count ∷ []
-
--- ---- demand 3 and the water between the rows, of the sheet that the bytes read as
-
--- demand 3 of the rows written, as they stand in the buffer
-unfoldable pub TrustedLent : List ℕ → ℕ → List ℤ → Type 0
-TrustedLent sheet places after =
-    let read = readSheet sheet .sheet in
-    TrustedOf read (rowsIn (read .head .n) (length (runLent sheet places .rows)) after)
-
--- the water between the rows, of the same rows
-unfoldable pub SpannedLent : List ℕ → ℕ → List ℤ → Type 0
-SpannedLent sheet places after =
-    let read = readSheet sheet .sheet in
-    SpannedOf read (rowsIn (read .head .n) (length (runLent sheet places .rows)) after)
-
--- both of the text that was printed: it is that of a run, and so it is with the run's rows
-pub record TrustedText (sheet before : List ℕ) (count : ℕ) (after : List ℕ) : Type 0 where
-  pub run : Run
-  pub printed : Printed before (runText run) count after
-  pub trusted : TrustedOf (readSheet sheet .sheet) (run .rows)
-  pub spanned : SpannedOf (readSheet sheet .sheet) (run .rows)
 
 -- ---- an input of any length
 

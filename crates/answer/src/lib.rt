@@ -3,11 +3,12 @@ ghost use mathlib.Core.Path.{_≡_};
 ghost use mathlib.Core.List.{List};
 ghost use Prim.Native.Nat.{ℕ, _≤_};
 ghost use lib.ListN.{length, take};
-ghost use Rattle.model.specs.Answer.{answer, runText};
-ghost use Rattle.model.specs.Rows.{written};
+ghost use Rattle.model.specs.Reading.{readSheet};
+ghost use Rattle.model.specs.Answer.{runOf, answer, runText};
+ghost use Rattle.enclosure.specs.Trust.{TrustedOf, SpannedOf, Leaves};
 ghost use Rattle.printing.specs.Pieces.{Printed};
 ghost use Rattle.printing.specs.AnswerLength.{most-answer};
-ghost use Rattle.answer.specs.Answered.{runLent, endedOf, Ran, summary-length, summaryOf, TrustedLent, SpannedLent, TrustedText, FrontOf, AnswersAlike};
+ghost use Rattle.answer.specs.Answered.{runLent, endedOf, Ran, summary-length, summaryOf, FrontOf, AnswersAlike};
 use model::MOST_BYTES;
 use model::Outcome;
 use model::refused_step;
@@ -64,10 +65,8 @@ fn run_sheet(sheet: &[u8], rows: &mut [i64]) -> Ended
 #[no_mangle]
 pub extern "C" fn planner_answer(sheet: &[u8], rows: &mut [i64], text: &mut [u8]) -> usize
     ensures printed { λ r. ⌜ Printed (now (text .entry)) (runText (runLent (now (sheet .entry)) (length (now (rows .entry))))) r (now (text .exit)) ⌝ }
-    ensures written { λ _. ⌜ now (rows .exit) ≡ written (runLent (now (sheet .entry)) (length (now (rows .entry))) .rows) (now (rows .entry)) ⌝ }
     ensures bounded { λ r. ⌜ r ≤ most-answer ⌝ }
-    ensures trusted { λ _. ⌜ TrustedLent (now (sheet .entry)) (length (now (rows .entry))) (now (rows .exit)) ⌝ }
-    ensures spanned { λ _. ⌜ SpannedLent (now (sheet .entry)) (length (now (rows .entry))) (now (rows .exit)) ⌝ }
+    ensures leaves { λ _. ⌜ Leaves (readSheet (now (sheet .entry)) .sheet) (runLent (now (sheet .entry)) (length (now (rows .entry)))) (now (rows .entry)) (now (rows .exit)) ⌝ }
 {
     let ended = run_sheet(sheet, rows);
     let outcome = ended.outcome;
@@ -91,9 +90,7 @@ fn put_summary(summary: &mut [u64], ended: Ended)
 #[no_mangle]
 pub extern "C" fn planner_run(sheet: &[u8], rows: &mut [i64], summary: &mut [u64; SUMMARY_LENGTH])
     ensures summarised { λ _. ⌜ now (summary .exit) ≡ summaryOf (endedOf (now (sheet .entry)) (length (now (rows .entry)))) ⌝ }
-    ensures written { λ _. ⌜ now (rows .exit) ≡ written (runLent (now (sheet .entry)) (length (now (rows .entry))) .rows) (now (rows .entry)) ⌝ }
-    ensures trusted { λ _. ⌜ TrustedLent (now (sheet .entry)) (length (now (rows .entry))) (now (rows .exit)) ⌝ }
-    ensures spanned { λ _. ⌜ SpannedLent (now (sheet .entry)) (length (now (rows .entry))) (now (rows .exit)) ⌝ }
+    ensures leaves { λ _. ⌜ Leaves (readSheet (now (sheet .entry)) .sheet) (runLent (now (sheet .entry)) (length (now (rows .entry)))) (now (rows .entry)) (now (rows .exit)) ⌝ }
 {
     let ended = run_sheet(sheet, rows);
     put_summary(summary, ended);
@@ -105,7 +102,6 @@ fn answer_sheet(sheet: &[u8], text: &mut [u8]) -> usize
     requires { ⌜ length (now text) ≡ most-answer ⌝ }
     ensures printed { λ r. ⌜ Printed (now (text .entry)) (answer (now (sheet .entry))) r (now (text .exit)) ⌝ }
     ensures bounded { λ r. ⌜ r ≤ most-answer ⌝ }
-    ensures trusted { λ r. ⌜ TrustedText (now (sheet .entry)) (now (text .entry)) r (now (text .exit)) ⌝ }
 {
     let mut rows = [0i64; ROWS_LENGTH];
     planner_answer(sheet, &mut rows, text)
@@ -126,7 +122,8 @@ pub fn front(bytes: &[u8], count: usize) -> &[u8]
 pub fn answer_input(sheet: &[u8; SHEET_LENGTH], count: usize, text: &mut [u8; TEXT_LENGTH]) -> usize
     ensures printed { λ r. ⌜ Printed (now (text .entry)) (answer (take count (now (sheet .entry)))) r (now (text .exit)) ⌝ }
     ensures whole { λ r. ⌜ r ≤ length (now (text .exit)) ⌝ }
-    ensures trusted { λ r. ⌜ TrustedText (take count (now (sheet .entry))) (now (text .entry)) r (now (text .exit)) ⌝ }
+    ensures trusted { λ _. ⌜ TrustedOf (readSheet (take count (now (sheet .entry))) .sheet) (runOf (take count (now (sheet .entry))) .rows) ⌝ }
+    ensures spanned { λ _. ⌜ SpannedOf (readSheet (take count (now (sheet .entry))) .sheet) (runOf (take count (now (sheet .entry))) .rows) ⌝ }
     ensures of_input { λ _. ⌜ ((input : List ℕ) → FrontOf (length (now (sheet .entry))) input (take count (now (sheet .entry))) → AnswersAlike input (take count (now (sheet .entry)))) ⌝ }
 {
     answer_sheet(front(sheet, count), text)

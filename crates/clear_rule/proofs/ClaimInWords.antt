@@ -16,26 +16,28 @@ use Rattle.enclosure.specs.Exact.{State, exactSum}
 use Rattle.model.specs.Passage.{rowsWritten}
 use Rattle.model.specs.Rows.{rowIn, rowsIn}
 use Rattle.model.specs.Step.{Row, no-row}
-use Rattle.enclosure.specs.Trust.{LiesWithin, stateAfter, NoLower}
+use Rattle.enclosure.specs.Trust.{LiesWithin, stateAfter, startOf, SpannedOf}
 use Rattle.model.specs.declared.Outcome.{Outcome}
 use Rattle.model.specs.declared.Outcome.the-variants.{Refused as RefusedAt}
 use Rattle.model.specs.declared.Refusal.{Refusal}
 use Rattle.model.specs.declared.Refusal.the-variants.{Oversized, Misspelt, OutOfRange, NoReading, TooFewPlaces, TooLarge, StepTooLong, Intolerable, QueryOutOfRange, RowOutOfRange}
 use Rattle.model.specs.declared.Sheet.{Sheet}
 use Rattle.model.specs.declared.Term.{Term}
-use Rattle.ranges.proofs.Ranges.{getD-tabulate}
-use Rattle.clear_rule.specs.Clearance.{certain, foundNumber}
-use Rattle.clear_rule.specs.Claim.{OpensRun, Answers, Clears, ClearsAllTheWay, ClearOf, Wrote, Said, SaidBy, SaidOf}
+use Rattle.ranges.proofs.Ranges.{length-tabulate, getD-tabulate}
+use Rattle.laws.proofs.Passages.RowPlaces.{Quantities}
+use Rattle.clear_rule.specs.Clearance.{certain, foundResult, foundRow, Names, foundNumber}
+use Rattle.clear_rule.specs.Claim.{OpensRun, Answers, Clears, ClearsAllTheWay, EachClear, ClearOf, ClearFrom, Wrote, Said, SaidBy, SaidOf}
 use Rattle.clear_rule.specs.declared.Query.{Query}
 use Rattle.clear_rule.specs.declared.Found.{Found}
 use Rattle.clear_rule.specs.declared.Found.the-variants.{At, Nowhere, Refused}
-use Rattle.clear_rule.proofs.SumsFit.{length-spans-in, length-rows}
-use Rattle.clear_rule.proofs.ClearSpans.{Between, clear-spans}
+use Rattle.clear_rule.proofs.SumsFit.{length-rows}
+use Rattle.clear_rule.proofs.ClearSpans.{Between, clear-spans, clear-from-spans}
 
-wide-rows : (n count : ℕ) (buffer : List ℤ) (j : ℕ) → j < length (rowsIn n count buffer) → length (getD (rowsIn n count buffer) j no-row .spans) ≡ n
-unfolding rowsIn
+wide-rows : (n count : ℕ) (buffer : List ℤ) (j : ℕ) → j < length (rowsIn n count buffer) → Quantities n (getD (rowsIn n count buffer) j no-row)
+unfolding rowsIn rowIn
 wide-rows n count buffer j h =
-    ap (λ (row : Row). length (row .spans)) (getD-tabulate count (rowIn n buffer) no-row j (omega (arith, length-rows n count buffer))) ∙ length-spans-in n buffer j
+    let row : getD (rowsIn n count buffer) j no-row ≡ rowIn n buffer j = getD-tabulate count (rowIn n buffer) no-row j (omega (arith, length-rows n count buffer)) in
+    record { balls = ap (λ (row : Row). length (row .balls)) row ∙ length-tabulate n _; spans = ap (λ (row : Row). length (row .spans)) row ∙ length-tabulate n _ }
 
 -- a refusal's number has a minus
 minus-no-row : (r : Refusal) (m : ℕ) → pos m ≡ negℤ (pos (number r)) → ⊥
@@ -56,14 +58,26 @@ module _ (sheet : Sheet) (base : ℤ) (run : ℕ) (found : List ℤ → ℤ → 
   said-spans n count buffer wrote said =
       clear-spans sheet (rowsIn n count buffer) base run found (rw (← wrote .quantities) (wide-rows n count buffer)) (λ weights need. said weights need .clear sheet wrote)
 
+  pub said-spans-from : (n count : ℕ) (buffer : List ℤ) → Wrote sheet n count buffer → ((weights : List ℤ) (need : ℤ) → Said n count buffer (record { weights = weights; base = base; need = need; run = run }) (found weights need)) → SpannedOf sheet (rowsIn n count buffer)
+  said-spans-from n count buffer wrote said =
+      clear-from-spans sheet (rowsIn n count buffer) base run found (rw (← wrote .quantities) (wide-rows n count buffer)) (λ weights need. said weights need .clear-from sheet wrote)
+
   pub said-of-spans : (after : List ℤ) (outcome : Outcome) → ((weights : List ℤ) (need : ℤ) → SaidOf sheet (record { weights = weights; base = base; need = need; run = run }) after outcome (found weights need)) → Between sheet (rowsIn (sheet .head .n) (rowsWritten sheet outcome) after)
   said-of-spans after outcome said =
       clear-spans sheet (rowsIn (sheet .head .n) (rowsWritten sheet outcome) after) base run found (wide-rows (sheet .head .n) (rowsWritten sheet outcome) after) (λ weights need. said weights need .clear)
+
+  pub said-of-spans-from : (after : List ℤ) (outcome : Outcome) → ((weights : List ℤ) (need : ℤ) → SaidOf sheet (record { weights = weights; base = base; need = need; run = run }) after outcome (found weights need)) → SpannedOf sheet (rowsIn (sheet .head .n) (rowsWritten sheet outcome) after)
+  said-of-spans-from after outcome said =
+      clear-from-spans sheet (rowsIn (sheet .head .n) (rowsWritten sheet outcome) after) base run found (wide-rows (sheet .head .n) (rowsWritten sheet outcome) after) (λ weights need. said weights need .clear-from)
 
 -- the same of answers that are one number
 pub said-by-spans : (sheet : Sheet) (base : ℤ) (run : ℕ) (number : List ℤ → ℤ → ℤ) (n count : ℕ) (buffer : List ℤ) → Wrote sheet n count buffer → ((weights : List ℤ) (need : ℤ) → SaidBy n count buffer (record { weights = weights; base = base; need = need; run = run }) (number weights need)) → Between sheet (rowsIn n count buffer)
 said-by-spans sheet base run number n count buffer wrote said =
     said-spans sheet base run (λ weights need. said weights need .found) n count buffer wrote (λ weights need. said weights need .said)
+
+pub said-by-spans-from : (sheet : Sheet) (base : ℤ) (run : ℕ) (number : List ℤ → ℤ → ℤ) (n count : ℕ) (buffer : List ℤ) → Wrote sheet n count buffer → ((weights : List ℤ) (need : ℤ) → SaidBy n count buffer (record { weights = weights; base = base; need = need; run = run }) (number weights need)) → SpannedOf sheet (rowsIn n count buffer)
+said-by-spans-from sheet base run number n count buffer wrote said =
+    said-spans-from sheet base run (λ weights need. said weights need .found) n count buffer wrote (λ weights need. said weights need .said)
 
 -- the premise is about the counted rows alone: a copy of them meets it, whatever stands behind
 pub copied-wrote : (sheet : Sheet) (n count : ℕ) (buffer copy : List ℤ) → Wrote sheet n count buffer → rowsIn n count copy ≡ rowsIn n count buffer → Wrote sheet n count copy
@@ -110,16 +124,16 @@ module _ (n count : ℕ) (buffer : List ℤ) (query : Query) (found : Found) (sa
   pub said-answers : Answers query (rowsIn n count buffer) found
   said-answers = said .answers
 
-  pub said-clears : (sheet : Sheet) → Wrote sheet n count buffer → ClearOf sheet query (rowsIn n count buffer) found
-  said-clears = said .clear
+  pub said-clears : (sheet : Sheet) → Wrote sheet n count buffer → ClearOf sheet query (rowsIn n count buffer) found × ClearFrom sheet query (rowsIn n count buffer) found
+  said-clears sheet wrote = (said .clear sheet wrote, said .clear-from sheet wrote)
 
 -- .. and so it is of a passage's own rows
 module _ (sheet : Sheet) (query : Query) (after : List ℤ) (outcome : Outcome) (found : Found) (said : SaidOf sheet query after outcome found) where
   pub own-answers : Answers query (rowsIn (sheet .head .n) (rowsWritten sheet outcome) after) found
   own-answers = said .answers
 
-  pub own-clears : ClearOf sheet query (rowsIn (sheet .head .n) (rowsWritten sheet outcome) after) found
-  own-clears = said .clear
+  pub own-clears : let rows = rowsIn (sheet .head .n) (rowsWritten sheet outcome) after in ClearOf sheet query rows found × ClearFrom sheet query rows found
+  own-clears = (said .clear, said .clear-from)
 
 -- a row that is named opens a run, no earlier one does, and where none is said none does
 module _ (query : Query) (rows : List Row) where
@@ -163,19 +177,51 @@ whole-step : (terms : List Term) (H : ℤ) (K : ℕ) (state : State) → exactSu
 unfolding one
 whole-step terms H K state = ap₂ (λ (H : ℤ) (s : ℕ). exactSum terms H s K state) (*ℤ-one H) (mul-one scale)
 
-module _ (sheet : Sheet) (query : Query) (rows : List Row) (found : Found) (claim : ClearOf sheet query rows found) (state : State) (within : LiesWithin (startsOf sheet) state) (degrees : List ℕ) (lower : NoLower degrees rows) where
+module _ (sheet : Sheet) (query : Query) (rows : List Row) (found : Found) (claim : ClearOf sheet query rows found) (state : State) (within : LiesWithin (startsOf sheet) state) (degrees : List ℕ) (each : length degrees ≡ length rows) (lower : (j : ℕ) → j < length rows → getD rows j no-row .degree ≤ getD degrees j 0) where
+  claimed : EachClear query rows found (λ j. ClearsAllTheWay query (termsOf sheet) (sheet .head .step) (getD rows j no-row .degree) (stateAfter (termsOf sheet) (sheet .head .step) degrees state j))
+  unfolding ClearOf
+  claimed = claim state within degrees (record { each = each; lower = lower })
+
   -- at the end of its step: the exact state of a certain row clears the need
   pub end-clears : (j : ℕ) → j < length rows → certain query (getD rows j no-row) ≡ true → Clears query (stateAfter (termsOf sheet) (sheet .head .step) degrees state (suc j))
-  unfolding ClearOf ClearsAllTheWay stateAfter
+  unfolding ClearsAllTheWay stateAfter
   end-clears j h e =
-      rw (← whole-step (termsOf sheet) (sheet .head .step) (getD degrees j 0) (stateAfter (termsOf sheet) (sheet .head .step) degrees state j)) (claim state within degrees lower .certain-row j h e 1 1 (omega arith) (omega arith) (getD degrees j 0) (lower .lower j h))
+      rw (← whole-step (termsOf sheet) (sheet .head .step) (getD degrees j 0) (stateAfter (termsOf sheet) (sheet .head .step) degrees state j)) (claimed .certain-row j h e 1 1 (omega arith) (omega arith) (getD degrees j 0) (lower j h))
 
   -- the step of every certain row is clear all the way ..
   pub row-clears : (j : ℕ) → j < length rows → certain query (getD rows j no-row) ≡ true → (u w : ℕ) → 0 < w → u ≤ w → (K : ℕ) → getD rows j no-row .degree ≤ K → Clears query (exactSum (termsOf sheet) (sheet .head .step *ℤ pos u) (scale * w) K (stateAfter (termsOf sheet) (sheet .head .step) degrees state j))
-  unfolding ClearOf ClearsAllTheWay
-  row-clears j h e = claim state within degrees lower .certain-row j h e
+  unfolding ClearsAllTheWay
+  row-clears j h e = claimed .certain-row j h e
 
   -- .. and so is each step of the run that is answered
   pub run-clears : (j : ℕ) → found ≡ At (suc j) → (i : ℕ) → i < query .run → (u w : ℕ) → 0 < w → u ≤ w → (K : ℕ) → getD rows (j + i) no-row .degree ≤ K → Clears query (exactSum (termsOf sheet) (sheet .head .step *ℤ pos u) (scale * w) K (stateAfter (termsOf sheet) (sheet .head .step) degrees state (j + i)))
-  unfolding ClearOf ClearsAllTheWay
-  run-clears j e i h = claim state within degrees lower .run j i e h
+  unfolding ClearsAllTheWay
+  run-clears j e i h = claimed .run j i e h
+
+-- so it is from every exact state within the radii that the step starts from, whether or not the passage leads there
+module _ (sheet : Sheet) (query : Query) (rows : List Row) (found : Found) (claim : ClearFrom sheet query rows found) where
+  pub row-clears-from : (j : ℕ) → j < length rows → certain query (getD rows j no-row) ≡ true → (state : State) → LiesWithin (startOf (startsOf sheet) rows j) state → (u w : ℕ) → 0 < w → u ≤ w → (K : ℕ) → getD rows j no-row .degree ≤ K → Clears query (exactSum (termsOf sheet) (sheet .head .step *ℤ pos u) (scale * w) K state)
+  unfolding ClearFrom ClearsAllTheWay
+  row-clears-from j h e = claim .certain-row j h e
+
+  pub run-clears-from : (j : ℕ) → found ≡ At (suc j) → (i : ℕ) → i < query .run → (state : State) → LiesWithin (startOf (startsOf sheet) rows (j + i)) state → (u w : ℕ) → 0 < w → u ≤ w → (K : ℕ) → getD rows (j + i) no-row .degree ≤ K → Clears query (exactSum (termsOf sheet) (sheet .head .step *ℤ pos u) (scale * w) K state)
+  unfolding ClearFrom ClearsAllTheWay
+  run-clears-from j e i h = claim .run j i e h
+
+-- ---- an answer's number, and the row that it names
+
+-- a row that is named has its own number and the number 0; none has 0 and 0, and a refusal its number and no row
+pub found-at : (row : ℕ) → (foundResult (At row) ≡ 0) × (foundRow (At row) ≡ row)
+unfolding foundResult foundRow
+found-at row = (refl, refl)
+
+pub found-none : (foundResult Nowhere ≡ 0) × (foundRow Nowhere ≡ 0)
+unfolding foundResult foundRow
+found-none = (refl, refl)
+
+pub found-refused : (r : Refusal) → (foundResult (Refused r) ≡ number r) × (foundRow (Refused r) ≡ 0)
+unfolding foundResult foundRow
+found-refused r = (refl, refl)
+
+pub names-says : {found : Found} {number row : ℕ} → Names found number row → (foundResult found ≡ number) × (foundRow found ≡ row)
+names-says names = (names .result-is, names .row-is)

@@ -14,13 +14,14 @@ use Rattle.ranges.specs.Range.{sumℤ}
 use Rattle.model.specs.Sheet.{scale, termsOf, startsOf}
 use Rattle.enclosure.specs.Exact.{State, exactSum}
 use Rattle.model.specs.Step.{no-span, Row, no-row}
-use Rattle.enclosure.specs.Trust.{LiesWithin, LiesBetween, stateAfter, NoLower}
+use Rattle.enclosure.specs.Trust.{LiesWithin, LiesBetween, stateAfter, startOf, Spanned, SpannedOf}
 use Rattle.model.specs.declared.Sheet.{Sheet}
 use Rattle.model.specs.declared.Term.{Term}
 use Rattle.ranges.proofs.Ranges.{sumℤ-zero, sumℤ-single, length-tabulate}
 use Rattle.laws.proofs.Bounds.Reach.{scale-positive}
+use Rattle.laws.proofs.Passages.RowPlaces.{Quantities}
 use Rattle.clear_rule.specs.Clearance.{weight, endFor, certain}
-use Rattle.clear_rule.specs.Claim.{Clears, ClearsAllTheWay, ClearOf}
+use Rattle.clear_rule.specs.Claim.{Clears, ClearsAllTheWay, ClearOf, ClearFrom}
 use Rattle.clear_rule.specs.declared.Query.{Query}
 use Rattle.clear_rule.specs.declared.Found.{Found}
 use Rattle.clear_rule.proofs.SumsFit.{takes-low, takes-high, end-of, assured-to, assured-is}
@@ -149,12 +150,22 @@ states-wide terms H degrees state (suc j) = length-tabulate _ _ ∙ states-wide 
 -- lower than the row's, the exact sum lies between the row's lows and highs
 abbrev pub Between : Sheet → List Row → Type 0
 Between sheet rows =
-    (state : State) → LiesWithin (startsOf sheet) state → (degrees : List ℕ) → NoLower degrees rows → (j : ℕ) → j < length rows →
+    (state : State) → LiesWithin (startsOf sheet) state → (degrees : List ℕ) → length degrees ≡ length rows → ((j : ℕ) → j < length rows → getD rows j no-row .degree ≤ getD degrees j 0) → (j : ℕ) → j < length rows →
     (u w : ℕ) → 0 < w → u ≤ w → (K : ℕ) → getD rows j no-row .degree ≤ K →
     LiesBetween (getD rows j no-row .spans) (exactSum (termsOf sheet) (sheet .head .step *ℤ pos u) (scale * w) K (stateAfter (termsOf sheet) (sheet .head .step) degrees state j))
 
 module _ (sheet : Sheet) (rows : List Row) (base : ℤ) (run : ℕ) (found : List ℤ → ℤ → Found) where
-  pub clear-spans : ((j : ℕ) → j < length rows → length (getD rows j no-row .spans) ≡ sheet .head .n) → ((weights : List ℤ) (need : ℤ) → ClearOf sheet (record { weights = weights; base = base; need = need; run = run }) rows (found weights need)) → Between sheet rows
+  pub clear-spans : ((j : ℕ) → j < length rows → Quantities (sheet .head .n) (getD rows j no-row)) → ((weights : List ℤ) (need : ℤ) → ClearOf sheet (record { weights = weights; base = base; need = need; run = run }) rows (found weights need)) → Between sheet rows
   unfolding ClearOf ClearsAllTheWay startsOf exactSum
-  clear-spans wide claim state within degrees lower j h u w positive part K least =
-      clear-lies (getD rows j no-row) (exactSum (termsOf sheet) (sheet .head .step *ℤ pos u) (scale * w) K (stateAfter (termsOf sheet) (sheet .head .step) degrees state j)) base run (length-tabulate _ _ ∙ states-wide (termsOf sheet) (sheet .head .step) degrees state j ∙ within .quantities ∙ length-tabulate (sheet .head .n) _ ∙ sym (wide j h)) (λ weights need e. claim weights need state within degrees lower .certain-row j h e u w positive part K least)
+  clear-spans wide claim state within degrees each lower j h u w positive part K least =
+      clear-lies (getD rows j no-row) (exactSum (termsOf sheet) (sheet .head .step *ℤ pos u) (scale * w) K (stateAfter (termsOf sheet) (sheet .head .step) degrees state j)) base run (length-tabulate _ _ ∙ states-wide (termsOf sheet) (sheet .head .step) degrees state j ∙ within .quantities ∙ length-tabulate (sheet .head .n) _ ∙ sym (wide j h .spans)) (λ weights need e. claim weights need state within degrees (record { each = each; lower = lower }) .certain-row j h e u w positive part K least)
+
+  -- and from every exact state within the radii that each row's step starts from: the claim about the water between the rows, whole
+  pub clear-from-spans : ((j : ℕ) → j < length rows → Quantities (sheet .head .n) (getD rows j no-row)) → ((weights : List ℤ) (need : ℤ) → ClearFrom sheet (record { weights = weights; base = base; need = need; run = run }) rows (found weights need)) → SpannedOf sheet rows
+  unfolding ClearFrom ClearsAllTheWay SpannedOf Spanned exactSum
+  clear-from-spans wide claim j h state within u w positive part K least =
+      clear-lies (getD rows j no-row) (exactSum (termsOf sheet) (sheet .head .step *ℤ pos u) (scale * w) K state) base run (length-tabulate _ _ ∙ within .quantities ∙ start-wide j h ∙ sym (wide j h .spans)) (λ weights need e. claim weights need .certain-row j h e state within u w positive part K least)
+    where
+      start-wide : (j : ℕ) → j < length rows → length (startOf (startsOf sheet) rows j) ≡ sheet .head .n
+      start-wide zero h = unfold startOf startsOf in length-tabulate (sheet .head .n) _
+      start-wide (suc j) h = unfold startOf in wide j (omega arith) .balls

@@ -17,7 +17,7 @@ use Rattle.model.specs.Sheet.{most, most-steps, Verdict, passes, refuses, ask, 
 use Rattle.model.specs.Step.{Row, no-row}
 use Rattle.model.specs.Rows.{width, values-part, radii-part, lows-part, highs-part, partPlace, places, written, rowsIn}
 use Rattle.enclosure.specs.RowRange.{Printable}
-use Rattle.model.specs.Passage.{Run, refused, passage, rowsWritten, Kept}
+use Rattle.model.specs.Passage.{Run, refused, passage, rowsWritten}
 use Rattle.model.specs.declared.Limits.{Limits}
 use Rattle.model.specs.declared.Outcome.{Outcome}
 use Rattle.model.specs.declared.Outcome.the-variants.{Refused as RefusedAt}
@@ -28,6 +28,7 @@ use Rattle.laws.proofs.Passages.RowsOfPassage.{rows-of-passage, passage-refused
 use Rattle.enclosure.proofs.RowRange.{passage-in-range, passage-few, passage-fits}
 use Rattle.ranges.proofs.Lists.{each-at}
 use Rattle.laws.proofs.Passages.RowPlaces.{Wide, places-length, row-written, written-length, value-written, radius-written, low-written, high-written}
+use Rattle.laws.proofs.Passages.UnderWay.{RunInto}
 use Rattle.ranges.proofs.Ranges.{tabulate-is}
 use Rattle.ranges.proofs.EveryLaws.{every-all}
 use Rattle.laws.proofs.Text.Verdicts.{natural-passes, signed-passes}
@@ -133,21 +134,21 @@ module _ (sheet : Sheet) (before : List ℤ) where
 
 -- ---- what comes of them
 
-module _ (sheet : Sheet) {before after : List ℤ} {outcome : Outcome} (kept : Kept (passage sheet (length before)) before after outcome) where
+module _ (sheet : Sheet) (before : List ℤ) {after : List ℤ} {outcome : Outcome} (into : RunInto (passage sheet (length before)) before after outcome) where
   count-is : rowsWritten sheet outcome ≡ length (rows sheet before)
-  count-is = ap (rowsWritten sheet) (kept .answer) ∙ sym (rows-of-passage sheet (length before) .count)
+  count-is = ap (rowsWritten sheet) (into .0) ∙ sym (rows-of-passage sheet (length before) .count)
 
-  pub kept-wrote : (count : ℕ) → count ≤ rowsWritten sheet outcome → Wrote sheet (sheet .head .n) count after
-  kept-wrote count few = rw (kept .buffer) (written-wrote sheet before count (omega (arith, count-is)))
+  pub own-wrote : (count : ℕ) → count ≤ rowsWritten sheet outcome → Wrote sheet (sheet .head .n) count after
+  own-wrote count few = rw (into .1) (written-wrote sheet before count (omega (arith, count-is)))
 
   -- a sheet whose n is refused is refused by it
   n-decides : within n-limits (pos (sheet .head .n)) ≡ false → outcome ≡ RefusedAt OutOfRange 0
   unfolding refused
-  n-decides e = kept .answer ∙ ap (λ (run : Run). run .outcome) (passage-refused sheet (length before) (unfold sheetVerdictTo headVerdict inRange ask _then_ in rw e))
+  n-decides e = into .0 ∙ ap (λ (run : Run). run .outcome) (passage-refused sheet (length before) (unfold sheetVerdictTo headVerdict inRange ask _then_ in rw e))
 
   pub own-refusals : (query : Query) {found : Found} → found ≡ firstClear (sheet .head .n) (rowsWritten sheet outcome) after query → (r : Refusal) → found ≡ Refused r → (r ≡ QueryOutOfRange) ⊎ ((r ≡ OutOfRange) × (outcome ≡ RefusedAt OutOfRange 0))
   own-refusals query e r f =
-      ⊎-elim (λ (q : r ≡ QueryOutOfRange). inl q) (λ (p : (r ≡ OutOfRange) × (within n-limits (pos (sheet .head .n)) ≡ false)). inr (p .0, n-decides (p .1))) (written-refusals sheet before query (rowsWritten sheet outcome) (omega (arith, count-is)) r (rw (← kept .buffer) (sym e ∙ f)))
+      ⊎-elim (λ (q : r ≡ QueryOutOfRange). inl q) (λ (p : (r ≡ OutOfRange) × (within n-limits (pos (sheet .head .n)) ≡ false)). inr (p .0, n-decides (p .1))) (written-refusals sheet before query (rowsWritten sheet outcome) (omega (arith, count-is)) r (rw (← into .1) (sym e ∙ f)))
 
   pub own-said : (query : Query) {found : Found} → found ≡ firstClear (sheet .head .n) (rowsWritten sheet outcome) after query → Said (sheet .head .n) (rowsWritten sheet outcome) after query found → SaidOf sheet query after outcome found
-  own-said query e said = record { answers = said .answers; clear = said .clear sheet (kept-wrote (rowsWritten sheet outcome) (omega arith)); refusals = own-refusals query e }
+  own-said query e said = let wrote = own-wrote (rowsWritten sheet outcome) (omega arith) in record { answers = said .answers; clear = said .clear sheet wrote; clear-from = said .clear-from sheet wrote; refusals = own-refusals query e }

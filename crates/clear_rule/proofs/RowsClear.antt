@@ -22,7 +22,7 @@ use Rattle.ranges.proofs.Ranges.{sumℤ-le, sumℤ-factor}
 use Rattle.enclosure.proofs.Spanned.{passage-spanned, spanned-prefix}
 use Rattle.enclosure.proofs.Trusted.{passage-trusted, trusted-prefix}
 use Rattle.clear_rule.specs.Clearance.{weight, endFor, certain}
-use Rattle.clear_rule.specs.Claim.{Answers, Clears, ClearsAllTheWay, ClearOf, Wrote}
+use Rattle.clear_rule.specs.Claim.{Answers, Clears, ClearsAllTheWay, EachClear, ClearOf, ClearFrom, Wrote}
 use Rattle.clear_rule.specs.declared.Query.{Query}
 use Rattle.clear_rule.specs.declared.Found.{Found}
 use Rattle.clear_rule.specs.declared.Found.the-variants.{At}
@@ -79,19 +79,23 @@ module _ (sheet : Sheet) (query : Query) (rows : List Row) where
   state-before trusted state within degrees lower zero h = within
   state-before trusted state within degrees lower (suc j) h = trusted state within degrees lower j (omega arith) .0
 
-  pub spanned-clears : TrustedOf sheet rows → SpannedOf sheet rows → (found : Found) → Answers query rows found → ClearOf sheet query rows found
-  unfolding SpannedOf Spanned ClearOf ClearsAllTheWay
-  spanned-clears trusted spanned found answers state within degrees lower = record { certain-row = each; run = λ j i e h. in-run j (rw e at answers) i h }
+  -- what may be said of the step of every certain row may be said of each row of the run that is answered
+  each-clear : (Clear : ℕ → Type 0) (found : Found) → Answers query rows found → ((j : ℕ) → j < length rows → certain query (getD rows j no-row) ≡ true → Clear j) → EachClear query rows found Clear
+  each-clear Clear found answers each = record { certain-row = each; run = λ j i e h. in-run j (rw e at answers) i h }
     where
-      Clear : ℕ → Type 0
-      Clear j = ClearsAllTheWay query (termsOf sheet) (sheet .head .step) (getD rows j no-row .degree) (stateAfter (termsOf sheet) (sheet .head .step) degrees state j)
-
-      each : (j : ℕ) → j < length rows → certain query (getD rows j no-row) ≡ true → Clear j
-      each j h e u w positive part K high =
-          certain-clears query (getD rows j no-row) (spanned j h (stateAfter (termsOf sheet) (sheet .head .step) degrees state j) (state-before trusted state within degrees lower j h) u w positive part K high) e
-
       in-run : (j : ℕ) → Answers query rows (At (suc j)) → (i : ℕ) → i < query .run → Clear (j + i)
       in-run j answers i h = unfold Answers in each (j + i) (omega (arith, answers .0 .counted)) (answers .0 .certain-each i h)
+
+  pub spanned-clears-from : SpannedOf sheet rows → (found : Found) → Answers query rows found → ClearFrom sheet query rows found
+  unfolding SpannedOf Spanned ClearFrom ClearsAllTheWay
+  spanned-clears-from spanned found answers =
+      each-clear _ found answers (λ j h e state within u w positive part K high. certain-clears query (getD rows j no-row) (spanned j h state within u w positive part K high) e)
+
+  -- the states that the passage leads to are among these
+  pub spanned-clears : TrustedOf sheet rows → SpannedOf sheet rows → (found : Found) → Answers query rows found → ClearOf sheet query rows found
+  unfolding ClearFrom ClearOf
+  spanned-clears trusted spanned found answers state within degrees lower =
+      each-clear _ found answers (λ j h e. spanned-clears-from spanned found answers .certain-row j h e (stateAfter (termsOf sheet) (sheet .head .step) degrees state j) (state-before trusted state within degrees lower j h))
 
 module _ (sheet : Sheet) (n count : ℕ) (buffer : List ℤ) (wrote : Wrote sheet n count buffer) where
   few : count ≤ length (passage sheet (wrote .places) .rows)

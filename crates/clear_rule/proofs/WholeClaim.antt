@@ -12,7 +12,7 @@ use Rattle.model.specs.Sheet.{most-steps, Verdict, passes, refuses, ask, _then_
 use Rattle.model.specs.Rows.{width, rowsIn}
 use Rattle.model.specs.declared.Refusal.{Refusal}
 use Rattle.model.specs.declared.Refusal.the-variants.{OutOfRange, TooFewPlaces, QueryOutOfRange, RowOutOfRange}
-use Rattle.clear_rule.specs.Clearance.{firstRun, count-limits, queryWithin, rowWithin, clearVerdict, firstClear, foundNumber}
+use Rattle.clear_rule.specs.Clearance.{firstRun, count-limits, queryWithin, rowWithin, clearVerdict, firstClear, foundResult, foundRow, Names}
 use Rattle.clear_rule.specs.Asked.{NamesRow}
 use Rattle.clear_rule.specs.Claim.{Answers, Said}
 use Rattle.clear_rule.specs.declared.Query.{Query}
@@ -21,7 +21,7 @@ use Rattle.clear_rule.specs.declared.Found.the-variants.{At, Refused}
 use Rattle.clear_rule.proofs.SumsFit.{length-rows}
 use Rattle.clear_rule.proofs.InRange.{passed-in-range}
 use Rattle.clear_rule.proofs.FirstRun.{first-run-answers, answered-row}
-use Rattle.clear_rule.proofs.RowsClear.{spanned-clears, wrote-trusted, wrote-spanned}
+use Rattle.clear_rule.proofs.RowsClear.{spanned-clears-from, spanned-clears, wrote-trusted, wrote-spanned}
 
 -- ---- the whole claim
 
@@ -39,6 +39,7 @@ module _ (n count : ℕ) (buffer : List ℤ) (query : Query) where
       record {
         answers = clear-answers;
         clear = λ sheet w. spanned-clears sheet query (rowsIn n count buffer) (wrote-trusted sheet n count buffer w) (wrote-spanned sheet n count buffer w) (firstClear n count buffer query) clear-answers;
+        clear-from = λ sheet w. spanned-clears-from sheet query (rowsIn n count buffer) (wrote-spanned sheet n count buffer w) (firstClear n count buffer query) clear-answers;
       }
 
 -- ---- the row that is answered, as a number
@@ -61,11 +62,11 @@ module _ (n count : ℕ) (buffer : List ℤ) (query : Query) where
 -- all that is promised of an answer: it is the definition's, says all that it says, and has its number
 abbrev pub Promised : ℕ → ℕ → List ℤ → Query → Found → Type 0
 Promised n count buffer query found =
-    (found ≡ firstClear n count buffer query) × (Said n count buffer query found × (foundNumber found ≡ foundNumber (firstClear n count buffer query)))
+    (found ≡ firstClear n count buffer query) × (Said n count buffer query found × Names found (foundResult (firstClear n count buffer query)) (foundRow (firstClear n count buffer query)))
 
 module _ (n count : ℕ) (buffer : List ℤ) (query : Query) where
   promised : {found : Found} → found ≡ firstClear n count buffer query → Promised n count buffer query found
-  promised e = (e, (rw e (all-said n count buffer query), ap foundNumber e))
+  promised e = (e, (rw e (all-said n count buffer query), record { result-is = ap foundResult e; row-is = ap foundRow e }))
 
   -- by what the questions came to
   pub answered : {v : Verdict} → clearVerdict n count buffer query ≡ v → firstClear n count buffer query ≡ elim v [ refuses r ↦ Refused r | passes ↦ firstRun query (rowsIn n count buffer) ]

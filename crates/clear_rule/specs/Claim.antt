@@ -14,7 +14,7 @@ use Rattle.enclosure.specs.Exact.{State, exactSum}
 use Rattle.model.specs.Step.{Row, no-row}
 use Rattle.model.specs.Rows.{rowsIn}
 use Rattle.model.specs.Passage.{passage, rowsWritten}
-use Rattle.enclosure.specs.Trust.{LiesWithin, stateAfter, NoLower}
+use Rattle.enclosure.specs.Trust.{LiesWithin, stateAfter, NoLower, startOf}
 use Rattle.model.specs.declared.Sheet.{Sheet}
 use Rattle.model.specs.declared.Term.{Term}
 use Rattle.model.specs.declared.Refusal.{Refusal}
@@ -71,6 +71,13 @@ ClearOf sheet query rows found =
     (degrees : List ℕ) → NoLower degrees rows →
     EachClear query rows found (λ j. ClearsAllTheWay query terms H (getD rows j no-row .degree) (stateAfter terms H degrees state j))
 
+-- So it is from every exact state within the radii that the step of such a row starts from, whether or not the passage leads there.
+unfoldable pub ClearFrom : Sheet → Query → List Row → Found → Type 0
+ClearFrom sheet query rows found =
+    EachClear query rows found (λ j.
+      (state : State) → LiesWithin (startOf (startsOf sheet) rows j) state →
+      ClearsAllTheWay query (termsOf sheet) (sheet .head .step) (getD rows j no-row .degree) state)
+
 -- A sheet's passage wrote the first `count` rows of a buffer, with some places lent: they are the first so many of its rows. Where it is refused at a
 -- step, its earlier rows are its rows.
 pub record Wrote (sheet : Sheet) (n count : ℕ) (buffer : List ℤ) : Type 0 where
@@ -82,6 +89,7 @@ pub record Wrote (sheet : Sheet) (n count : ℕ) (buffer : List ℤ) : Type 0 wh
 pub record Said (n count : ℕ) (buffer : List ℤ) (query : Query) (found : Found) : Type 0 where
   pub answers : Answers query (rowsIn n count buffer) found
   pub clear : (sheet : Sheet) → Wrote sheet n count buffer → ClearOf sheet query (rowsIn n count buffer) found
+  pub clear-from : (sheet : Sheet) → Wrote sheet n count buffer → ClearFrom sheet query (rowsIn n count buffer) found
 
 -- The same about an answer that is one number.
 pub record SaidBy (n count : ℕ) (buffer : List ℤ) (query : Query) (number : ℤ) : Type 0 where
@@ -94,4 +102,5 @@ pub record SaidBy (n count : ℕ) (buffer : List ℤ) (query : Query) (number : 
 pub record SaidOf (sheet : Sheet) (query : Query) (after : List ℤ) (outcome : Outcome) (found : Found) : Type 0 where
   pub answers : Answers query (rowsIn (sheet .head .n) (rowsWritten sheet outcome) after) found
   pub clear : ClearOf sheet query (rowsIn (sheet .head .n) (rowsWritten sheet outcome) after) found
+  pub clear-from : ClearFrom sheet query (rowsIn (sheet .head .n) (rowsWritten sheet outcome) after) found
   pub refusals : (r : Refusal) → found ≡ Refused r → (r ≡ QueryOutOfRange) ⊎ ((r ≡ OutOfRange) × (outcome ≡ RefusedAt OutOfRange 0))

@@ -3,6 +3,7 @@
 use Prim.Native.Nat.{ℕ, suc, _+_, _*_}
 use mathlib.Core.Bool.{Bool, cond, _&&_}
 use mathlib.Core.List.{List}
+use mathlib.Core.Path.{_≡_}
 use lib.Dec.{leb, ltb}
 use lib.IntN.{ℤ, pos, negℤ, _+ℤ_, _*ℤ_}
 use lib.ListN.{length, getD}
@@ -120,6 +121,23 @@ clearVerdict n count rows query =
 unfoldable pub firstClear : ℕ → ℕ → List ℤ → Query → Found
 firstClear n count rows query =
     elim (clearVerdict n count rows query) [ refuses r ↦ Refused r | passes ↦ firstRun query (rowsIn n count rows) ]
+
+-- its number: 0, or the refusal's
+unfoldable pub foundResult : Found → ℕ
+foundResult (At row) = 0
+foundResult Nowhere = 0
+foundResult (Refused r) = number r
+
+-- the row that it names, from 1, and 0 where it names none
+unfoldable pub foundRow : Found → ℕ
+foundRow (At row) = row
+foundRow Nowhere = 0
+foundRow (Refused r) = 0
+
+-- an answer has this number, and names this row
+pub record Names (found : Found) (number row : ℕ) : Type 0 where
+  pub result-is : foundResult found ≡ number
+  pub row-is : foundRow found ≡ row
 
 -- as one number, for C: the row's, 0 for none, or a refusal's with a minus
 unfoldable pub foundNumber : Found → ℤ

@@ -5,7 +5,7 @@ ghost use mathlib.Core.Path.{_≡_};
 ghost use lib.ListN.{length};
 ghost use Rattle.model.specs.Sheet.{result, refusedStep, Gives};
 ghost use Rattle.model.specs.Passage as passage;
-ghost use Rattle.enclosure.specs.Trust.{TrustedRows, SpannedRows};
+ghost use Rattle.enclosure.specs.Trust.{Leaves};
 ghost use Rattle.clear_rule.specs.Asked.{NamesRow};
 ghost use Rattle.clear_rule.specs.Claim.{Said, SaidBy, SaidOf};
 ghost use Rattle.clear_rule.specs.Clearance as clearance;
@@ -36,7 +36,7 @@ const COUNT: Limits = Limits {
 pub fn first_clear(n: usize, count: usize, rows: &[i64], query: Query) -> Found
     ensures found { λ r. ⌜ r ≡ clearance.firstClear n count (now (rows .entry)) query ⌝ }
     ensures said { λ r. ⌜ Said n count (now (rows .entry)) query r ⌝ }
-    ensures numbered { λ r. ⌜ clearance.foundNumber r ≡ clearance.foundNumber (clearance.firstClear n count (now (rows .entry)) query) ⌝ }
+    ensures numbered { λ r. ⌜ clearance.Names r (clearance.foundResult (clearance.firstClear n count (now (rows .entry)) query)) (clearance.foundRow (clearance.firstClear n count (now (rows .entry)) query)) ⌝ }
 {
     if !natural_within(limits::N, n as u64) {
         return Found::Refused(Refusal::OutOfRange);
@@ -100,13 +100,12 @@ pub struct RunFound {
 
 // Runs the passage of a sheet given as numbers, as `passage::run` does, and looks through the rows that it wrote.
 pub fn run_and_find(sheet: Sheet, rows: &mut [i64], query: Query) -> RunFound
-    ensures kept { λ r. ⌜ passage.Kept (passage.passage sheet (length (now (rows .entry)))) (now (rows .entry)) (now (rows .exit)) (r .outcome) ⌝ }
-    ensures trusted { λ r. ⌜ TrustedRows sheet (now (rows .exit)) (r .outcome) ⌝ }
-    ensures spanned { λ r. ⌜ SpannedRows sheet (now (rows .exit)) (r .outcome) ⌝ }
+    ensures ended { λ r. ⌜ r .outcome ≡ passage.passage sheet (length (now (rows .entry))) .outcome ⌝ }
+    ensures leaves { λ _. ⌜ Leaves sheet (passage.passage sheet (length (now (rows .entry)))) (now (rows .entry)) (now (rows .exit)) ⌝ }
     ensures numbered { λ r. ⌜ Gives (r .outcome) (result (passage.passage sheet (length (now (rows .entry))) .outcome)) (refusedStep (passage.passage sheet (length (now (rows .entry))) .outcome)) ⌝ }
     ensures found { λ r. ⌜ r .found ≡ clearance.firstClear (sheet .head .n) (passage.rowsWritten sheet (r .outcome)) (now (rows .exit)) query ⌝ }
     ensures said { λ r. ⌜ SaidOf sheet query (now (rows .exit)) (r .outcome) (r .found) ⌝ }
-    ensures found_numbered { λ r. ⌜ clearance.foundNumber (r .found) ≡ clearance.foundNumber (clearance.firstClear (sheet .head .n) (passage.rowsWritten sheet (r .outcome)) (now (rows .exit)) query) ⌝ }
+    ensures found_numbered { λ r. ⌜ clearance.Names (r .found) (clearance.foundResult (clearance.firstClear (sheet .head .n) (passage.rowsWritten sheet (r .outcome)) (now (rows .exit)) query)) (clearance.foundRow (clearance.firstClear (sheet .head .n) (passage.rowsWritten sheet (r .outcome)) (now (rows .exit)) query)) ⌝ }
 {
     let outcome = run(sheet, rows);
     let n = sheet.head.n;

@@ -14,11 +14,11 @@ use Rattle.ranges.specs.Range.{bytes}
 use Rattle.model.specs.Sheet.{most-bytes, most-quantities, most-steps, stored-steps, number, result, refusedStep, passes, sheetVerdictTo, no-head, no-sheet}
 use Rattle.model.specs.Reading.{readSheetTo}
 use Rattle.model.specs.Step.{Row, no-row}
-use Rattle.model.specs.Passage.{small, Run, refused, run, passage, placesNeeded, rowsWritten, Kept}
+use Rattle.model.specs.Passage.{small, Run, refused, run, passage, placesNeeded, rowsWritten}
 use Rattle.model.specs.Rows.{width, places, written, rowIn}
-use Rattle.enclosure.specs.Trust.{TrustedOf, SpannedOf}
+use Rattle.enclosure.specs.Trust.{TrustedOf, SpannedOf, Leaves}
 use Rattle.model.specs.Answer.{outcomeText}
-use Rattle.stored.specs.Conversion.{sheetText, withSteps, firstPart, secondPart, lastBalls, partsText, splitText, convertedBy, converted, ComesOut}
+use Rattle.stored.specs.Conversion.{sheetText, withSteps, firstPart, secondPart, lastBalls, partsText, splitText, convertedBy, converted, ComesOutAs}
 use Rattle.model.specs.declared.Ball.{Ball}
 use Rattle.model.specs.declared.Sheet.{Sheet}
 use Rattle.model.specs.declared.ReadSheet.{ReadSheet}
@@ -30,9 +30,11 @@ use Rattle.stored.proofs.Conversion.{first-passes, comes-out}
 use Rattle.ranges.proofs.Ranges.{before-or-past}
 use Rattle.laws.proofs.Text.Readings.{accepted-is-acceptable, refused-is-zeros, long-text-is-oversized, read-from-front}
 use Rattle.ranges.proofs.Lists as lists
+use Rattle.laws.proofs.Passages.UnderWay.{RunInto}
+use Rattle.enclosure.proofs.PromisedRows.{rows-leave}
 use Rattle.enclosure.proofs.Spanned.{no-rows-spanned, passage-spanned}
 use Rattle.enclosure.proofs.Trusted.{no-rows-trusted, passage-trusted}
-use Rattle.laws.proofs.Passages.RowPlaces.{Wide, rows-in-written, row-written, places-length, written-length, rows-fit}
+use Rattle.laws.proofs.Passages.RowPlaces.{Wide, row-written, places-length, written-length, rows-fit}
 use Rattle.laws.proofs.Passages.RowsOfPassage.{rows-of-passage, passage-runs}
 use Rattle.enclosure.proofs.RowRange.{passage-step, passage-fits}
 use Rattle.laws.proofs.Text.Verdicts.{few-in-sheet}
@@ -43,7 +45,7 @@ use Rattle.printing.proofs.Pieces.{printed-whole}
 use Rattle.printing.proofs.AnswerLength.{length-outcome}
 use Rattle.answer.specs.Answered.{FrontOf}
 use Rattle.stored.specs.Lent.{convertedLent, splitLent}
-use Rattle.conversion.specs.Converted.{TrustedSplit, SpannedSplit, ConvertedText, ConvertedWith, ConvertsAlike}
+use Rattle.conversion.specs.Converted.{ComesOutWith, ConvertsAlike}
 
 -- ---- the two parts
 
@@ -68,32 +70,32 @@ module _ (sheet : Sheet) (first : Run) where
   split-accepted e = rw (e, splitText)
 
 -- its first part has run
-module _ (sheet : Sheet) {first : Sheet} (is : first ≡ firstPart most-steps sheet) {before after : List ℤ} {outcome : Outcome} (ran : Kept (passage first (length before)) before after outcome) where
+module _ (sheet : Sheet) {first : Sheet} (is : first ≡ firstPart most-steps sheet) (before : List ℤ) {after : List ℤ} {outcome : Outcome} (ran : RunInto (passage first (length before)) before after outcome) where
   lent : Run
   lent = passage (firstPart most-steps sheet) (length before)
 
-  kept : Kept lent before after outcome
+  kept : RunInto lent before after outcome
   unfolding lent
   kept = rw is at ran
 
   pub kept-written : after ≡ written (passage (firstPart most-steps sheet) (length before) .rows) before
   unfolding lent
-  kept-written = kept .buffer
+  kept-written = kept .1
 
   -- refused, no later than at its last step
   pub kept-early : refusedStep outcome ≤ suc most-steps
   unfolding lent
-  kept-early = rw (kept .answer) (omega (arith, passage-step (firstPart most-steps sheet) (length before)))
+  kept-early = rw (kept .0) (omega (arith, passage-step (firstPart most-steps sheet) (length before)))
 
   pub kept-refused : {r : Refusal} {step : ℕ} → outcome ≡ Refused r step → outcomeText outcome ≡ splitText most-steps sheet (passage (firstPart most-steps sheet) (length before))
   unfolding lent
-  kept-refused told = ap outcomeText told ∙ sym (split-refused sheet lent (sym (kept .answer) ∙ told))
+  kept-refused told = ap outcomeText told ∙ sym (split-refused sheet lent (sym (kept .0) ∙ told))
 
   -- or accepted, and then there is a row for each step
   module _ (told : outcome ≡ Accepted) where
     count : length (lent .rows) ≡ most-steps
     unfolding lent rowsWritten firstPart withSteps
-    count = rows-of-passage (firstPart most-steps sheet) (length before) .count ∙ ap (rowsWritten (firstPart most-steps sheet)) (sym (kept .answer) ∙ told)
+    count = rows-of-passage (firstPart most-steps sheet) (length before) .count ∙ ap (rowsWritten (firstPart most-steps sheet)) (sym (kept .0) ∙ told)
 
     fits : length (places (lent .rows)) ≤ length before
     unfolding lent
@@ -103,12 +105,12 @@ module _ (sheet : Sheet) {first : Sheet} (is : first ≡ firstPart most-steps sh
     pub kept-last : sheet .head .n ≤ most-quantities → HasRow (sheet .head .n) (most-steps - 1) after
     unfolding lent firstPart withSteps
     kept-last few =
-        rw (kept .buffer) (has-row {count = length (lent .rows)} (most-steps - 1) (omega (arith, count)) (record { few = few; room = rw (written-length (lent .rows) before fits) (passage-fits (firstPart most-steps sheet) (length before)) }))
+        rw (kept .1) (has-row {count = length (lent .rows)} (most-steps - 1) (omega (arith, count)) (record { few = few; room = rw (written-length (lent .rows) before fits) (passage-fits (firstPart most-steps sheet) (length before)) }))
 
     last-row : rowIn (sheet .head .n) after (most-steps - 1) ≡ getD (lent .rows) (most-steps - 1) no-row
     unfolding lent firstPart withSteps
     last-row =
-        rw (kept .buffer) (row-written (rows-of-passage (firstPart most-steps sheet) (length before) .wide) before (most-steps - 1) (omega (arith, count)))
+        rw (kept .1) (row-written (rows-of-passage (firstPart most-steps sheet) (length before) .wide) before (most-steps - 1) (omega (arith, count)))
 
     last-is : rowIn (sheet .head .n) after (most-steps - 1) .balls ≡ lastBalls (lent .rows)
     unfolding lent lastBalls firstPart withSteps
@@ -117,7 +119,7 @@ module _ (sheet : Sheet) {first : Sheet} (is : first ≡ firstPart most-steps sh
 
     pub kept-accepted : {balls : List Ball} → balls ≡ rowIn (sheet .head .n) after (most-steps - 1) .balls → partsText most-steps sheet balls ≡ splitText most-steps sheet (passage (firstPart most-steps sheet) (length before))
     unfolding lent
-    kept-accepted read = ap (partsText most-steps sheet) (read ∙ last-is) ∙ sym (split-accepted sheet lent (sym (kept .answer) ∙ told))
+    kept-accepted read = ap (partsText most-steps sheet) (read ∙ last-is) ∙ sym (split-accepted sheet lent (sym (kept .0) ∙ told))
 
 -- ---- a stored sheet, whatever its first part comes to
 
@@ -225,15 +227,16 @@ module _ (text : List ℕ) (places : ℕ) where
   wide = rows-either (Wide (firstPart most-steps (read-as text .sheet) .head .n)) lists.none (rows-of-passage (firstPart most-steps (read-as text .sheet)) places .wide)
 
 module _ (text : List ℕ) (before : List ℤ) {after : List ℤ} (buffer : after ≡ written (splitLent text (length before) .rows) before) where
-  pub split-trusted : TrustedSplit text (length before) after
-  unfolding TrustedSplit TrustedOf
-  split-trusted =
-      rw (buffer, rows-in-written (wide text (length before)) before) (rows-either text (length before) (TrustedOf (firstPart most-steps (read-as text .sheet))) (no-rows-trusted _ _ _ _) (passage-trusted (firstPart most-steps (read-as text .sheet)) (length before)))
+  pub split-leaves : Leaves (firstPart most-steps (read-as text .sheet)) (splitLent text (length before)) before after
+  split-leaves = rows-leave (firstPart most-steps (read-as text .sheet)) (splitLent text (length before)) before (wide text (length before)) trusted spanned buffer
+    where
+      trusted : TrustedOf (firstPart most-steps (read-as text .sheet)) (splitLent text (length before) .rows)
+      trusted =
+          rows-either text (length before) (TrustedOf (firstPart most-steps (read-as text .sheet))) (unfold TrustedOf in no-rows-trusted _ _ _ _) (passage-trusted (firstPart most-steps (read-as text .sheet)) (length before))
 
-  pub split-spanned : SpannedSplit text (length before) after
-  unfolding SpannedSplit SpannedOf
-  split-spanned =
-      rw (buffer, rows-in-written (wide text (length before)) before) (rows-either text (length before) (SpannedOf (firstPart most-steps (read-as text .sheet))) (no-rows-spanned _ _ _) (passage-spanned (firstPart most-steps (read-as text .sheet)) (length before)))
+      spanned : SpannedOf (firstPart most-steps (read-as text .sheet)) (splitLent text (length before) .rows)
+      spanned =
+          rows-either text (length before) (SpannedOf (firstPart most-steps (read-as text .sheet))) (unfold SpannedOf in no-rows-spanned _ _ _) (passage-spanned (firstPart most-steps (read-as text .sheet)) (length before))
 
 -- ---- with places enough, document 02's conversion
 
@@ -264,21 +267,14 @@ most-are-enough text places enough = enough-is-converted text places (λ long. l
 
 -- ---- how a stored sheet comes out
 
-pub text-comes-out : (sheet : List ℕ) {before after : List ℕ} {count : ℕ} → Printed before (converted sheet) count after → ConvertedText sheet before count after
-text-comes-out sheet p = record { text = converted sheet; printed = p; comes-out = comes-out sheet }
+pub lent-comes-out : (places : ℕ) (sheet : List ℕ) → ComesOutWith places sheet
+unfolding ComesOutWith
+lent-comes-out places sheet enough = rw (enough-is-converted sheet places enough) (comes-out sheet)
 
-pub lent-comes-out : (places : ℕ) (sheet : List ℕ) {before after : List ℕ} {count : ℕ} → Printed before (convertedLent sheet places) count after → ConvertedWith places sheet before count after
-unfolding ConvertedWith
-lent-comes-out places sheet p enough = text-comes-out sheet (rw (enough-is-converted sheet places enough) at p)
-
--- what the promise says: a text that fits is one that the stored sheet comes out as
-pub converted-stands : {sheet before after : List ℕ} {count : ℕ} (t : ConvertedText sheet before count after) → length (t .text) ≤ length before → (take count after ≡ t .text) × ComesOut sheet (t .text)
-converted-stands t h = (printed-whole (t .printed) h, t .comes-out)
-
--- where the places are enough, that is promised of them
-pub lent-stands : {places : ℕ} {sheet before after : List ℕ} {count : ℕ} → (most-steps < readSheetTo stored-steps sheet .sheet .head .steps → most-steps * width (readSheetTo stored-steps sheet .sheet .head .n) ≤ places) → ConvertedWith places sheet before count after → ConvertedText sheet before count after
-unfolding ConvertedWith
-lent-stands enough promised = promised enough
+-- what the promise says: with places enough, a text that fits stands at the buffer's start, and is what the stored sheet comes out as
+pub lent-stands : (places : ℕ) (sheet : List ℕ) {before after : List ℕ} {count : ℕ} → (most-steps < readSheetTo stored-steps sheet .sheet .head .steps → most-steps * width (readSheetTo stored-steps sheet .sheet .head .n) ≤ places) → Printed before (convertedLent sheet places) count after → ComesOutWith places sheet → length (convertedLent sheet places) ≤ length before → ComesOutAs sheet (take count after)
+unfolding ComesOutWith
+lent-stands places sheet enough printed promised fits = rw (printed-whole printed fits) (promised enough)
 
 -- two inputs that come out alike come out as one text
 pub alike-converts : {one other : List ℕ} → ConvertsAlike one other → converted one ≡ converted other

@@ -5,13 +5,15 @@ ghost use mathlib.Core.List.{List};
 ghost use mathlib.Core.Path.{_≡_};
 ghost use lib.ListN.{length, take};
 ghost use Rattle.model.specs.Sheet.{most-bytes, most-steps, stored-steps, passes, sheetVerdictTo};
+ghost use Rattle.model.specs.Reading.{readSheetTo};
 ghost use Rattle.model.specs.Passage.{passage};
 ghost use Rattle.model.specs.Rows.{ballsOf, written};
 ghost use Rattle.stored.specs.Conversion as model;
 ghost use Rattle.answer.specs.Answered.{FrontOf};
 ghost use Rattle.printing.specs.Pieces.{Put, Printed};
 ghost use Rattle.stored.specs.Lent.{convertedLent, splitLent};
-ghost use Rattle.conversion.specs.Converted.{TrustedSplit, SpannedSplit, ConvertedText, ConvertedWith, ConvertsAlike};
+ghost use Rattle.enclosure.specs.Trust.{Leaves};
+ghost use Rattle.conversion.specs.Converted.{ComesOutWith, ConvertsAlike};
 use answer::SHEET_LENGTH;
 use answer::front;
 use decimal::put_front;
@@ -71,11 +73,9 @@ fn split(sheet: Sheet, rows: &mut [i64], text: &mut [u8]) -> usize
 #[no_mangle]
 pub extern "C" fn planner_convert(sheet: &[u8], rows: &mut [i64], text: &mut [u8]) -> usize
     ensures printed { λ r. ⌜ Printed (now (text .entry)) (convertedLent (now (sheet .entry)) (length (now (rows .entry)))) r (now (text .exit)) ⌝ }
-    ensures written { λ _. ⌜ now (rows .exit) ≡ written (splitLent (now (sheet .entry)) (length (now (rows .entry))) .rows) (now (rows .entry)) ⌝ }
     ensures bounded { λ r. ⌜ r ≤ most-bytes ⌝ }
-    ensures trusted { λ _. ⌜ TrustedSplit (now (sheet .entry)) (length (now (rows .entry))) (now (rows .exit)) ⌝ }
-    ensures spanned { λ _. ⌜ SpannedSplit (now (sheet .entry)) (length (now (rows .entry))) (now (rows .exit)) ⌝ }
-    ensures comes_out { λ r. ⌜ ConvertedWith (length (now (rows .entry))) (now (sheet .entry)) (now (text .entry)) r (now (text .exit)) ⌝ }
+    ensures leaves { λ _. ⌜ Leaves (model.firstPart most-steps (readSheetTo stored-steps (now (sheet .entry)) .sheet)) (splitLent (now (sheet .entry)) (length (now (rows .entry)))) (now (rows .entry)) (now (rows .exit)) ⌝ }
+    ensures comes_out { λ _. ⌜ ComesOutWith (length (now (rows .entry))) (now (sheet .entry)) ⌝ }
 {
     let reading = read_stored(sheet);
     let outcome = reading.outcome;
@@ -95,7 +95,6 @@ fn convert_sheet(sheet: &[u8], text: &mut [u8]) -> usize
     requires { ⌜ length (now text) ≡ most-bytes ⌝ }
     ensures printed { λ r. ⌜ Printed (now (text .entry)) (model.converted (now (sheet .entry))) r (now (text .exit)) ⌝ }
     ensures bounded { λ r. ⌜ r ≤ most-bytes ⌝ }
-    ensures comes_out { λ r. ⌜ ConvertedText (now (sheet .entry)) (now (text .entry)) r (now (text .exit)) ⌝ }
 {
     let mut rows = [0i64; ROWS_LENGTH];
     planner_convert(sheet, &mut rows, text)
@@ -110,7 +109,7 @@ pub fn convert_input(
 ) -> usize
     ensures printed { λ r. ⌜ Printed (now (text .entry)) (model.converted (take count (now (sheet .entry)))) r (now (text .exit)) ⌝ }
     ensures whole { λ r. ⌜ r ≤ length (now (text .exit)) ⌝ }
-    ensures comes_out { λ r. ⌜ ConvertedText (take count (now (sheet .entry))) (now (text .entry)) r (now (text .exit)) ⌝ }
+    ensures comes_out { λ _. ⌜ model.ComesOutAs (take count (now (sheet .entry))) (model.converted (take count (now (sheet .entry)))) ⌝ }
     ensures of_input { λ _. ⌜ ((input : List ℕ) → FrontOf (length (now (sheet .entry))) input (take count (now (sheet .entry))) → ConvertsAlike input (take count (now (sheet .entry)))) ⌝ }
 {
     convert_sheet(front(sheet, count), text)

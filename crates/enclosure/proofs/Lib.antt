@@ -24,6 +24,6 @@ pub mod DistrustBetween
 pub mod RowBounds
 pub mod EndsBetween
 pub mod RowRange
--- the claims of the rows in a lent buffer, and what the claims say, down to plain numbers
+-- what a run leaves in a lent buffer, and what the claims say of it, down to plain numbers
 pub mod PromisedRows
-pub mod TrustInWords
+pub mod ClaimsInWords

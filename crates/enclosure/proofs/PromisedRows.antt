@@ -1,83 +1,98 @@
--- The promise of a passage, by the way that it ends; and demand 3, and the water between the rows, of the rows that stand in the buffer.
-use Prim.Native.Nat.{ℕ, suc, _*_, _≤_, _<_}
-use mathlib.Core.Path.{_≡_, ap}
-use mathlib.Core.List.{List}
-use native.Mathlib.Omega.{arith}
-use lib.IntN.{ℤ, pos, _*ℤ_}
-use lib.ListN.{length, getD}
-use Rattle.model.specs.Sheet.{scale, result, refusedStep, Gives, passes, refuses, sheetVerdict, termsOf, startsOf}
-use Rattle.enclosure.specs.Exact.{State, exactSum}
-use Rattle.model.specs.Passage.{placesNeeded, run, passage, refused, rowsWritten, Kept}
-use Rattle.model.specs.Rows.{places, written, rowIn, rowsIn}
-use Rattle.enclosure.specs.Trust.{LiesWithin, LiesBetween, Tolerated, stateAfter, NoLower, Trusted, TrustedOf, startOf, Spanned, SpannedOf, TrustedRows, SpannedRows}
-use Rattle.model.specs.Step.{no-row}
+-- What a run leaves: rows that have their quantities, of which demand 3 holds and what is said of the water between them, stand in the buffer so; and the
+-- promise of a passage, by the way that it ends, and of one step by itself.
+use Prim.Native.Nat.{_≤_, _<_}
+use mathlib.Core.Path.{_≡_, refl, ap}
+use mathlib.Core.List.{List, [], _∷_}
+use lib.IntN.{ℤ}
+use lib.ListN.{length}
+use Rattle.model.specs.Sheet.{result, refusedStep, Gives, most-steps, Verdict, passes, refuses, sheetVerdict, termsOf}
+use Rattle.model.specs.LikeTerms.{gathered}
+use Rattle.model.specs.Step.{Row}
+use Rattle.model.specs.Passage.{Advance, moves, stops, advance, Run, goOn, follow, placesNeeded, run, passage, refused, stepOf}
+use Rattle.model.specs.Rows.{places, written}
+use Rattle.enclosure.specs.Trust.{Trusted, TrustedOf, Spanned, SpannedOf, Leaves}
+use Rattle.model.specs.declared.Ball.{Ball}
 use Rattle.model.specs.declared.Sheet.{Sheet}
 use Rattle.model.specs.declared.Refusal.{Refusal}
 use Rattle.model.specs.declared.Refusal.the-variants.{TooFewPlaces}
 use Rattle.model.specs.declared.Outcome.{Outcome}
 use Rattle.model.specs.declared.Outcome.the-variants.{Refused}
-use Rattle.ranges.proofs.Ranges.{length-tabulate}
-use Rattle.laws.proofs.Passages.RowPlaces.{rows-in-written}
+use Rattle.laws.proofs.Passages.RowPlaces.{Wide, rows-in-written}
 use Rattle.laws.proofs.Passages.RowsOfPassage.{rows-of-passage, passage-refused, passage-too-few-places, passage-runs}
-use Rattle.enclosure.proofs.Spanned.{passage-spanned}
-use Rattle.enclosure.proofs.Trusted.{passage-trusted}
+use Rattle.laws.proofs.Passages.SingleSteps.{step-of-refused, step-of-passing}
+use Rattle.laws.proofs.Passages.UnderWay.{RunInto}
+use Rattle.enclosure.proofs.Spanned.{no-rows-spanned, steps-spanned, passage-spanned}
+use Rattle.enclosure.proofs.Trusted.{no-rows-trusted, steps-trusted, passage-trusted}
+
+-- ---- what a run leaves
+
+pub rows-leave : (sheet : Sheet) (run : Run) (before : List ℤ) {after : List ℤ} → Wide (sheet .head .n) (run .rows) → TrustedOf sheet (run .rows) → SpannedOf sheet (run .rows) → after ≡ written (run .rows) before → Leaves sheet run before after
+unfolding TrustedOf SpannedOf
+rows-leave sheet run before wide trusted spanned e =
+    record {
+      buffer = e;
+      trusted = rw (e, rows-in-written wide before) trusted;
+      spanned = rw (e, rows-in-written wide before) spanned;
+    }
+
+-- ---- a passage, by the way that it ends
 
 module _ (sheet : Sheet) (buffer : List ℤ) where
   -- no row is written, and the buffer is as it was
-  kept-before-steps : (r : Refusal) → passage sheet (length buffer) ≡ refused r 0 → Kept (passage sheet (length buffer)) buffer buffer (Refused r 0)
+  before-steps : (r : Refusal) → passage sheet (length buffer) ≡ refused r 0 → RunInto (passage sheet (length buffer)) buffer buffer (Refused r 0)
   unfolding refused written places
-  kept-before-steps r e = record { answer = rw e; buffer = rw e }
+  before-steps r e = (rw e, rw e)
 
-  pub kept-refused : {r : Refusal} → sheetVerdict sheet ≡ refuses r → Kept (passage sheet (length buffer)) buffer buffer (Refused r 0)
-  kept-refused {r} e = kept-before-steps r (passage-refused sheet (length buffer) e)
+  pub run-refused : {r : Refusal} → sheetVerdict sheet ≡ refuses r → RunInto (passage sheet (length buffer)) buffer buffer (Refused r 0)
+  run-refused {r} e = before-steps r (passage-refused sheet (length buffer) e)
 
-  pub kept-too-few-places : sheetVerdict sheet ≡ passes → length buffer < placesNeeded sheet → Kept (passage sheet (length buffer)) buffer buffer (Refused TooFewPlaces 0)
-  kept-too-few-places e few = kept-before-steps TooFewPlaces (passage-too-few-places sheet (length buffer) e few)
+  pub run-too-few-places : sheetVerdict sheet ≡ passes → length buffer < placesNeeded sheet → RunInto (passage sheet (length buffer)) buffer buffer (Refused TooFewPlaces 0)
+  run-too-few-places e few = before-steps TooFewPlaces (passage-too-few-places sheet (length buffer) e few)
 
-  pub kept-run : {outcome : Outcome} {after : List ℤ} → sheetVerdict sheet ≡ passes → placesNeeded sheet ≤ length buffer → Kept (run sheet) buffer after outcome → Kept (passage sheet (length buffer)) buffer after outcome
+  pub run-through : {outcome : Outcome} {after : List ℤ} → sheetVerdict sheet ≡ passes → placesNeeded sheet ≤ length buffer → RunInto (run sheet) buffer after outcome → RunInto (passage sheet (length buffer)) buffer after outcome
   unfolding run
-  kept-run e room f =
-      let runs = passage-runs sheet (length buffer) e room in
-      record { answer = rw runs (f .answer); buffer = rw runs (f .buffer) }
-
--- What demand 3 says of the rows in the buffer: from every start within the radii, by any degrees no lower than the printed ones, the exact state
--- by the sheet's terms as read lies within each written row's radii of its values, and these are at most the tolerance.
-pub trusted-says : (sheet : Sheet) (after : List ℤ) (outcome : Outcome) → TrustedRows sheet after outcome →
-    let count = rowsWritten sheet outcome in
-    let rows = rowsIn (sheet .head .n) count after in
-    (state : State) → LiesWithin (startsOf sheet) state → (degrees : List ℕ) → NoLower degrees rows → (j : ℕ) → j < count →
-    LiesWithin (getD rows j no-row .balls) (stateAfter (termsOf sheet) (sheet .head .step) degrees state (suc j)) × Tolerated (sheet .head .tol) (getD rows j no-row .balls)
-unfolding TrustedRows TrustedOf Trusted rowsIn
-trusted-says sheet after outcome trusted state within degrees lower j h =
-    trusted state within degrees lower j (omega (arith, length-tabulate (rowsWritten sheet outcome) (rowIn (sheet .head .n) after)))
-
--- What is said of the water between the rows: from every state within the radii that a written row's step started from, at every fraction of the step
--- and for every degree no lower than the printed one, the exact sum by the sheet's terms as read is no lower than the row's low and no higher than
--- its high, in every quantity.
-pub spanned-says : (sheet : Sheet) (after : List ℤ) (outcome : Outcome) → SpannedRows sheet after outcome →
-    let count = rowsWritten sheet outcome in
-    let rows = rowsIn (sheet .head .n) count after in
-    (j : ℕ) → j < count → (state : State) → LiesWithin (startOf (startsOf sheet) rows j) state → (u w : ℕ) → 0 < w → u ≤ w → (K : ℕ) → getD rows j no-row .degree ≤ K →
-    LiesBetween (getD rows j no-row .spans) (exactSum (termsOf sheet) (sheet .head .step *ℤ pos u) (scale * w) K state)
-unfolding SpannedRows SpannedOf Spanned rowsIn
-spanned-says sheet after outcome spanned j h =
-    spanned j (omega (arith, length-tabulate (rowsWritten sheet outcome) (rowIn (sheet .head .n) after)))
-
-kept-trusted : (sheet : Sheet) {before after : List ℤ} {outcome : Outcome} → Kept (passage sheet (length before)) before after outcome → TrustedRows sheet after outcome
-unfolding TrustedRows
-kept-trusted sheet {before} {after} {outcome} k =
-    let rows = rows-of-passage sheet (length before) in
-    rw (k .answer, k .buffer, ← (rows .count), rows-in-written (rows .wide) before) (passage-trusted sheet (length before))
-
-kept-spanned : (sheet : Sheet) {before after : List ℤ} {outcome : Outcome} → Kept (passage sheet (length before)) before after outcome → SpannedRows sheet after outcome
-unfolding SpannedRows
-kept-spanned sheet {before} {after} {outcome} k =
-    let rows = rows-of-passage sheet (length before) in
-    rw (k .answer, k .buffer, ← (rows .count), rows-in-written (rows .wide) before) (passage-spanned sheet (length before))
-
-kept-gives : (sheet : Sheet) {before after : List ℤ} {outcome : Outcome} → Kept (passage sheet (length before)) before after outcome → Gives outcome (result (passage sheet (length before) .outcome)) (refusedStep (passage sheet (length before) .outcome))
-kept-gives sheet k = record { result-is = ap result (k .answer); step-is = ap refusedStep (k .answer) }
+  run-through e room f = let runs = passage-runs sheet (length buffer) e room in (rw runs (f .0), rw runs (f .1))
 
 -- all that a passage promises
-pub promised : (sheet : Sheet) {before after : List ℤ} {outcome : Outcome} → Kept (passage sheet (length before)) before after outcome → Kept (passage sheet (length before)) before after outcome × (TrustedRows sheet after outcome × (SpannedRows sheet after outcome × Gives outcome (result (passage sheet (length before) .outcome)) (refusedStep (passage sheet (length before) .outcome))))
-promised sheet k = (k, (kept-trusted sheet k, (kept-spanned sheet k, kept-gives sheet k)))
+module _ (sheet : Sheet) (before : List ℤ) {after : List ℤ} {outcome : Outcome} (into : RunInto (passage sheet (length before)) before after outcome) where
+  abbrev passed : Run
+  passed = passage sheet (length before)
+
+  leaves : Leaves sheet passed before after
+  leaves =
+      rows-leave sheet passed before (rows-of-passage sheet (length before) .wide) (passage-trusted sheet (length before)) (passage-spanned sheet (length before)) (into .1)
+
+  gives : Gives outcome (result (passed .outcome)) (refusedStep (passed .outcome))
+  gives = record { result-is = ap result (into .0); step-is = ap refusedStep (into .0) }
+
+  pub promised : (outcome ≡ passage sheet (length before) .outcome) × (Leaves sheet (passage sheet (length before)) before after × Gives outcome (result (passage sheet (length before) .outcome)) (refusedStep (passage sheet (length before) .outcome)))
+  promised = (into .0, (leaves, gives))
+
+-- ---- one step by itself
+
+-- the row that a step comes to, alone, or none
+unfoldable pub rowsMoved : Advance → List Row
+rowsMoved (moves row) = row ∷ []
+rowsMoved (stops r) = []
+
+module _ (sheet : Sheet) (balls : List Ball) where
+  -- what holds of no row, and of the rows of one step of a sheet that passes, holds of the row that a step comes to
+  step-either : (P : List Row → Type 0) → P [] → (sheetVerdict sheet ≡ passes → P (follow (gathered (termsOf sheet)) (sheet .head .step) (sheet .head .tail) (sheet .head .tol) 1 1 balls .rows)) → P (rowsMoved (stepOf sheet balls))
+  unfolding rowsMoved follow goOn refused
+  step-either P none one = judged (sheetVerdict sheet) refl
+    where
+      taken : (next : Advance) → P (goOn next 1 (λ row. follow (gathered (termsOf sheet)) (sheet .head .step) (sheet .head .tail) (sheet .head .tol) 0 2 (row .balls)) .rows) → P (rowsMoved next)
+      taken (moves row) p = p
+      taken (stops r) p = p
+
+      judged : (v : Verdict) → sheetVerdict sheet ≡ v → P (rowsMoved (stepOf sheet balls))
+      judged (refuses r) e = rw (step-of-refused sheet balls e) none
+      judged passes e = rw (step-of-passing sheet balls e) (taken (advance (gathered (termsOf sheet)) (sheet .head .step) (sheet .head .tail) (sheet .head .tol) balls) (one e))
+
+  -- Demand 3, and the water until that row, from any values and radii.
+  pub step-trusted : Trusted (termsOf sheet) (sheet .head .step) (sheet .head .tol) balls (rowsMoved (stepOf sheet balls))
+  step-trusted =
+      step-either (Trusted (termsOf sheet) (sheet .head .step) (sheet .head .tol) balls) (no-rows-trusted _ _ _ _) (λ e. steps-trusted most-steps sheet e 1 1 balls)
+
+  pub step-spanned : Spanned (termsOf sheet) (sheet .head .step) balls (rowsMoved (stepOf sheet balls))
+  step-spanned = step-either (Spanned (termsOf sheet) (sheet .head .step) balls) (no-rows-spanned _ _ _) (λ e. steps-spanned most-steps sheet e 1 1 balls)

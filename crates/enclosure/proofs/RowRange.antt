@@ -39,7 +39,7 @@ row-in-range sheet passed balls row l e =
     taken = step-taken _ _ _ _ balls e
 
     bounds : InBounds (gathered (termsOf sheet)) (sheet .head .step) balls
-    bounds = bounds-of-step balls (rw l (bounds-of-gathered sheet passed)) (taken .is-small) (taken .is-slow)
+    bounds = bounds-of-step balls (rw l (bounds-of-gathered most-steps sheet passed)) (taken .is-small) (taken .is-slow)
 
     radius-at : (i : ℕ) → i < length (row .balls) → getD (row .balls) i no-ball .radius ≤ most
     radius-at i h = le-trans (all-tolerated (sheet .head .tol) (row .balls) (taken .is-tolerable) .within i h) (counts-of-sheet sheet passed .tol-high)
@@ -74,7 +74,7 @@ passed-before sheet passed balls row l e i h = omega (arith, bounds .small i h)
     bounds : InBounds (gathered (termsOf sheet)) (sheet .head .step) balls
     bounds =
         let taken = step-taken _ _ _ _ balls e in
-        bounds-of-step balls (rw l (bounds-of-gathered sheet passed)) (taken .is-small) (taken .is-slow)
+        bounds-of-step balls (rw l (bounds-of-gathered most-steps sheet passed)) (taken .is-small) (taken .is-slow)
 
 pub passage-earlier : (sheet : Sheet) (places : ℕ) → AllButLast (λ row. Passed (row .balls)) (passage sheet places .rows)
 unfolding refused

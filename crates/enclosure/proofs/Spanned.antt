@@ -7,7 +7,7 @@ use native.Mathlib.Omega.{arith}
 use lib.IntN.{ℤ, pos, _*ℤ_}
 use lib.ListN.{length, take}
 use lib.Seq.{length-take-le, getD-take}
-use Rattle.model.specs.Sheet.{scale, passes, sheetVerdict, termsOf, startsOf}
+use Rattle.model.specs.Sheet.{scale, most-steps, passes, sheetVerdictTo, termsOf, startsOf}
 use Rattle.enclosure.specs.Exact.{State, exactSum}
 use Rattle.model.specs.LikeTerms.{gathered}
 use Rattle.model.specs.Step.{Row, no-row}
@@ -75,14 +75,18 @@ module _ (terms : List Term) (H : ℤ) (limit tol : ℕ) (formed : WellFormed te
 
 -- ---- a sheet and its passage
 
--- the gathered terms have the exact sums of the terms as read
-run-spanned : (sheet : Sheet) → sheetVerdict sheet ≡ passes → SpannedOf sheet (run sheet .rows)
-unfolding SpannedOf Spanned run
-run-spanned sheet e j lt state within u w positive part K h =
-    rw (← (sum-same (gathered (termsOf sheet)) (termsOf sheet) (rates-gathered (termsOf sheet)) (sheet .head .step *ℤ pos u) (scale * w) K state)) (follow-spanned (gathered (termsOf sheet)) (sheet .head .step) (sheet .head .tail) (sheet .head .tol) (record { absent = bounds-of-gathered sheet e .formed }) (sheet .head .steps) 1 (startsOf sheet) j lt state within u w positive part K h)
+-- any steps of a sheet, however many it may have, from any values and radii: the gathered terms have the exact sums of the terms as read
+pub steps-spanned : (high : ℕ) (sheet : Sheet) → sheetVerdictTo high sheet ≡ passes → (left step : ℕ) (balls : List Ball) → Spanned (termsOf sheet) (sheet .head .step) balls (follow (gathered (termsOf sheet)) (sheet .head .step) (sheet .head .tail) (sheet .head .tol) left step balls .rows)
+unfolding Spanned
+steps-spanned high sheet e left step balls j lt state within u w positive part K h =
+    rw (← (sum-same (gathered (termsOf sheet)) (termsOf sheet) (rates-gathered (termsOf sheet)) (sheet .head .step *ℤ pos u) (scale * w) K state)) (follow-spanned (gathered (termsOf sheet)) (sheet .head .step) (sheet .head .tail) (sheet .head .tol) (record { absent = bounds-of-gathered high sheet e .formed }) left step balls j lt state within u w positive part K h)
+
+pub run-spanned : (high : ℕ) (sheet : Sheet) → sheetVerdictTo high sheet ≡ passes → SpannedOf sheet (run sheet .rows)
+unfolding SpannedOf run
+run-spanned high sheet e = steps-spanned high sheet e (sheet .head .steps) 1 (startsOf sheet)
 
 -- Of every sheet, with any number of places lent.
 pub passage-spanned : (sheet : Sheet) (places : ℕ) → SpannedOf sheet (passage sheet places .rows)
 unfolding SpannedOf refused
 passage-spanned sheet places =
-    passage-either sheet places (λ run. SpannedOf sheet (run .rows)) (λ r. no-rows-spanned (termsOf sheet) (sheet .head .step) (startsOf sheet)) (λ e room. run-spanned sheet e)
+    passage-either sheet places (λ run. SpannedOf sheet (run .rows)) (λ r. no-rows-spanned (termsOf sheet) (sheet .head .step) (startsOf sheet)) (λ e room. run-spanned most-steps sheet e)

@@ -10,7 +10,7 @@ use lib.IntN.{ℤ}
 use lib.ListN.{length, getD, take}
 use lib.Seq.{getD-take, length-take-le}
 use Rattle.ranges.specs.Range.{tabulate}
-use Rattle.model.specs.Sheet.{scale, passes, sheetVerdict, termsOf, startsOf}
+use Rattle.model.specs.Sheet.{scale, most-steps, passes, sheetVerdictTo, termsOf, startsOf}
 use Rattle.enclosure.specs.Exact.{State, exactSum}
 use Rattle.model.specs.LikeTerms.{gathered}
 use Rattle.model.specs.Step.{Row, no-row}
@@ -101,13 +101,17 @@ module _ (terms : List Term) (H : ℤ) (limit tol : ℕ) (formed : WellFormed te
 
 -- ---- a sheet and its passage
 
-pub run-trusted : (sheet : Sheet) → sheetVerdict sheet ≡ passes → TrustedOf sheet (run sheet .rows)
+-- any steps of a sheet, however many it may have, from any values and radii
+pub steps-trusted : (high : ℕ) (sheet : Sheet) → sheetVerdictTo high sheet ≡ passes → (left step : ℕ) (balls : List Ball) → Trusted (termsOf sheet) (sheet .head .step) (sheet .head .tol) balls (follow (gathered (termsOf sheet)) (sheet .head .step) (sheet .head .tail) (sheet .head .tol) left step balls .rows)
+steps-trusted high sheet e left step balls =
+    trusted-same (gathered (termsOf sheet)) (termsOf sheet) (rates-gathered (termsOf sheet)) (sheet .head .step) (sheet .head .tol) balls _ (follow-trusted (gathered (termsOf sheet)) (sheet .head .step) (sheet .head .tail) (sheet .head .tol) (record { absent = bounds-of-gathered high sheet e .formed }) left step balls)
+
+pub run-trusted : (high : ℕ) (sheet : Sheet) → sheetVerdictTo high sheet ≡ passes → TrustedOf sheet (run sheet .rows)
 unfolding TrustedOf run
-run-trusted sheet e =
-    trusted-same (gathered (termsOf sheet)) (termsOf sheet) (rates-gathered (termsOf sheet)) (sheet .head .step) (sheet .head .tol) (startsOf sheet) (run sheet .rows) (follow-trusted (gathered (termsOf sheet)) (sheet .head .step) (sheet .head .tail) (sheet .head .tol) (record { absent = bounds-of-gathered sheet e .formed }) (sheet .head .steps) 1 (startsOf sheet))
+run-trusted high sheet e = steps-trusted high sheet e (sheet .head .steps) 1 (startsOf sheet)
 
 -- Demand 3, of every sheet, with any number of places lent.
 pub passage-trusted : (sheet : Sheet) (places : ℕ) → TrustedOf sheet (passage sheet places .rows)
 unfolding TrustedOf refused
 passage-trusted sheet places =
-    passage-either sheet places (λ run. TrustedOf sheet (run .rows)) (λ r. no-rows-trusted (termsOf sheet) (sheet .head .step) (sheet .head .tol) (startsOf sheet)) (λ e room. run-trusted sheet e)
+    passage-either sheet places (λ run. TrustedOf sheet (run .rows)) (λ r. no-rows-trusted (termsOf sheet) (sheet .head .step) (sheet .head .tol) (startsOf sheet)) (λ e room. run-trusted most-steps sheet e)

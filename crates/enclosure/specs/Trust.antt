@@ -10,12 +10,11 @@ use Rattle.rounding.specs.Enclosure.{Within}
 use Rattle.model.specs.Sheet.{scale, termsOf, startsOf}
 use Rattle.enclosure.specs.Exact.{State, exactSum}
 use Rattle.model.specs.Step.{no-ball, no-span, Row, no-row}
-use Rattle.model.specs.Rows.{rowsIn}
-use Rattle.model.specs.Passage.{rowsWritten}
+use Rattle.model.specs.Rows.{written, rowsIn}
+use Rattle.model.specs.Passage.{Run}
 use Rattle.model.specs.declared.Ball.{Ball}
 use Rattle.model.specs.declared.Span.{Span}
 use Rattle.model.specs.declared.Sheet.{Sheet}
-use Rattle.model.specs.declared.Outcome.{Outcome}
 use Rattle.model.specs.declared.Term.{Term}
 
 -- an exact state lies within radii of values: for every quantity, s times its number differs from the value by at most the radius
@@ -80,14 +79,11 @@ Spanned terms H starts rows =
 unfoldable pub SpannedOf : Sheet → List Row → Type 0
 SpannedOf sheet rows = Spanned (termsOf sheet) (sheet .head .step) (startsOf sheet) rows
 
--- ---- the rows in a lent buffer
+-- ---- what a run leaves
 
--- Demand 3, of the rows as they stand in the buffer.
-unfoldable pub TrustedRows : Sheet → List ℤ → Outcome → Type 0
-TrustedRows sheet after outcome =
-    TrustedOf sheet (rowsIn (sheet .head .n) (rowsWritten sheet outcome) after)
-
--- The water between the rows, of the rows as they stand in the buffer.
-unfoldable pub SpannedRows : Sheet → List ℤ → Outcome → Type 0
-SpannedRows sheet after outcome =
-    SpannedOf sheet (rowsIn (sheet .head .n) (rowsWritten sheet outcome) after)
+-- What a run of a sheet leaves in a lent buffer: its rows from the front, every other place as it was; and of these rows, as they stand there, demand 3
+-- and the water between them.
+pub record Leaves (sheet : Sheet) (run : Run) (before after : List ℤ) : Type 0 where
+  pub buffer : after ≡ written (run .rows) before
+  pub trusted : TrustedOf sheet (rowsIn (sheet .head .n) (length (run .rows)) after)
+  pub spanned : SpannedOf sheet (rowsIn (sheet .head .n) (length (run .rows)) after)

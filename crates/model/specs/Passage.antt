@@ -1,16 +1,15 @@
--- Document 01, questions 3 to 6: a passage given as numbers, its rows and its refusal, and the lent buffer after it.
+-- Document 01, questions 3 to 6: a passage given as numbers, its rows and its refusal.
 use Prim.Native.Nat.{ℕ, zero, suc, _-_, _*_}
 use mathlib.Core.Bool.{Bool, true, false}
 use mathlib.Core.List.{List, [], _∷_}
-use mathlib.Core.Path.{_≡_}
 use lib.Dec.{leb}
 use lib.IntN.{ℤ}
 use lib.ListN.{length, getD}
 use Rattle.ranges.specs.Range.{every}
-use Rattle.model.specs.Sheet.{number, most, sheetVerdict, passes, refuses, termsOf, startsOf}
+use Rattle.model.specs.Sheet.{most, sheetVerdict, passes, refuses, termsOf, startsOf}
 use Rattle.model.specs.LikeTerms.{gathered}
 use Rattle.model.specs.Step.{Ball, no-ball, reach, greatest, ratio, Row, stepRow}
-use Rattle.model.specs.Rows.{width, written}
+use Rattle.model.specs.Rows.{width}
 use Rattle.model.specs.declared.Term.{Term}
 use Rattle.model.specs.declared.Sheet.{Sheet}
 use Rattle.model.specs.declared.Refusal.{Refusal}
@@ -24,11 +23,6 @@ use Rattle.model.specs.declared.Outcome.the-variants.{Accepted, Refused}
 pub data Advance : Type 0 where
   moves : Row → Advance
   stops : Refusal → Advance
-
--- its number in document 01: 0 where there is a row
-unfoldable pub advanceNumber : Advance → ℕ
-advanceNumber (moves row) = 0
-advanceNumber (stops r) = number r
 
 -- a question: the step goes on where the answer is yes, and stops with this refusal where it is no
 unfoldable pub question : Bool → Refusal → Advance → Advance
@@ -113,10 +107,3 @@ stepOf sheet balls =
 unfoldable pub rowsWritten : Sheet → Outcome → ℕ
 rowsWritten sheet Accepted = sheet .head .steps
 rowsWritten sheet (Refused r step) = step - 1
-
--- ---- the lent buffer
-
--- A run into a lent buffer: the outcome is the run's, and the buffer holds its rows from the front, every other place as it was.
-pub record Kept (run : Run) (before after : List ℤ) (outcome : Outcome) : Type 0 where
-  pub answer : outcome ≡ run .outcome
-  pub buffer : after ≡ written (run .rows) before

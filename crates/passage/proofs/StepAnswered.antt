@@ -5,7 +5,7 @@ use mathlib.Core.List.{List}
 use lib.IntN.{ℤ}
 use lib.ListN.{getD}
 use Rattle.model.specs.Step.{no-ball, Row}
-use Rattle.model.specs.Rows.{ballIn, ballsIn, ballsOf, spansOf}
+use Rattle.model.specs.Rows.{ballIn, ballsIn, ballsOf}
 use Rattle.model.specs.Passage.{Advance, moves, stops, advance}
 use Rattle.model.specs.declared.Ball.{Ball}
 use Rattle.model.specs.declared.Balls.{Balls}
@@ -14,7 +14,7 @@ use Rattle.model.specs.declared.Refusal.{Refusal}
 use Rattle.ranges.proofs.Ranges.{length-tabulate, getD-tabulate}
 use Rattle.laws.proofs.Steps.StepTaken.{step-taken, row-of-quantities}
 use Rattle.enclosure.proofs.Orders.{all-tolerated}
-use Rattle.taylor.specs.StepAnswers.{rowLaidOut, answered}
+use Rattle.taylor.specs.StepAnswers.{advanceOf, rowLaidOut, answered, rowOf}
 use Rattle.taylor.specs.declared.step.Numbers.{Numbers}
 use Rattle.taylor.specs.declared.step.Stepped.{Stepped}
 use Rattle.taylor.specs.declared.step.Advance.the-variants.{Moves, Stops}
@@ -23,13 +23,9 @@ use Rattle.laws.proofs.Passages.RowPlaces.{Quantities, length-balls}
 
 -- ---- a row or a refusal, where the definition's is
 
--- the row of a degree and of numbers in arrays
-abbrev pub rowOf : ℕ → ℕ → Numbers → Row
-rowOf n degree numbers = record { degree = degree; balls = ballsOf n (numbers .balls); spans = spansOf n (numbers .spans) }
-
 -- an answer with a degree: the definition's row has it, and has the answer's numbers
 moves-to : (n : ℕ) (start : Balls) (next : Advance) (stepped : Stepped) (degree : ℕ) → ((row : Row) → next ≡ moves row → Quantities n row) → stepped ≡ answered start next → stepped .advance ≡ Moves degree → next ≡ moves (rowOf n degree (stepped .numbers))
-unfolding answered rowLaidOut
+unfolding answered advanceOf rowLaidOut
 moves-to n start (moves row) stepped degree full is e =
     let told : stepped .advance ≡ Moves (row .degree) = ap (λ (s : Stepped). s .advance) is in
     let same : degree ≡ row .degree = cc told in
@@ -40,7 +36,7 @@ moves-to n start (stops r) stepped degree full is e =
 
 -- an answer with a refusal: it is the definition's
 pub step-stops : (start : Balls) (next : Advance) (stepped : Stepped) (r : Refusal) → stepped ≡ answered start next → stepped .advance ≡ Stops r → next ≡ stops r
-unfolding answered
+unfolding answered advanceOf
 step-stops start (moves row) stepped r is e =
     let told : stepped .advance ≡ Moves (row .degree) = ap (λ (s : Stepped). s .advance) is in
     cc told

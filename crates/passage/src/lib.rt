@@ -3,9 +3,9 @@ ghost use mathlib.Core.Path.{_≡_};
 ghost use Prim.Native.Nat.{_≤_};
 ghost use lib.ListN.{length};
 ghost use Rattle.model.specs.Sheet.{result, refusedStep, Gives, most-quantities, listed, startValue, startsOf};
-ghost use Rattle.model.specs.Rows.{ballsOf};
+ghost use Rattle.model.specs.Rows.{ballsOf, written};
 ghost use Rattle.model.specs.Passage as passage;
-ghost use Rattle.enclosure.specs.Trust.{TrustedRows, SpannedRows};
+ghost use Rattle.enclosure.specs.Trust.{Leaves};
 ghost use Rattle.passage.specs.CanRun.{CanRun};
 use model::Balls;
 use model::Head;
@@ -57,7 +57,8 @@ fn starts_of(sheet: Sheet) -> Balls
 // of coefficients that each step works in, are made once for all of them.
 fn run_steps(head: Head, terms: Terms, start: Balls, rows: &mut [i64]) -> Outcome
     requires { ⌜ CanRun head (listed terms) (now rows) ⌝ }
-    ensures { λ r. ⌜ passage.Kept (passage.follow (listed terms) (head .step) (head .tail) (head .tol) (head .steps) 1 (ballsOf (head .n) start)) (now (rows .entry)) (now (rows .exit)) r ⌝ }
+    ensures ended { λ r. ⌜ r ≡ passage.follow (listed terms) (head .step) (head .tail) (head .tol) (head .steps) 1 (ballsOf (head .n) start) .outcome ⌝ }
+    ensures put { λ _. ⌜ now (rows .exit) ≡ written (passage.follow (listed terms) (head .step) (head .tail) (head .tol) (head .steps) 1 (ballsOf (head .n) start) .rows) (now (rows .entry)) ⌝ }
 {
     let n = head.n;
     let steps = head.steps;
@@ -88,9 +89,8 @@ fn run_steps(head: Head, terms: Terms, start: Balls, rows: &mut [i64]) -> Outcom
 // Runs the passage of a sheet given as numbers, by its gathered terms. Refused by 3, 4 or 5, it leaves the buffer as it
 // is; refused at a step, it has written the rows before that step.
 pub fn run(sheet: Sheet, rows: &mut [i64]) -> Outcome
-    ensures kept { λ r. ⌜ passage.Kept (passage.passage sheet (length (now (rows .entry)))) (now (rows .entry)) (now (rows .exit)) r ⌝ }
-    ensures trusted { λ r. ⌜ TrustedRows sheet (now (rows .exit)) r ⌝ }
-    ensures spanned { λ r. ⌜ SpannedRows sheet (now (rows .exit)) r ⌝ }
+    ensures ended { λ r. ⌜ r ≡ passage.passage sheet (length (now (rows .entry))) .outcome ⌝ }
+    ensures leaves { λ _. ⌜ Leaves sheet (passage.passage sheet (length (now (rows .entry)))) (now (rows .entry)) (now (rows .exit)) ⌝ }
     ensures numbered { λ r. ⌜ Gives r (result (passage.passage sheet (length (now (rows .entry))) .outcome)) (refusedStep (passage.passage sheet (length (now (rows .entry))) .outcome)) ⌝ }
 {
     let refused = verdict(sheet);

@@ -1,7 +1,7 @@
 -- What an accepted verdict gives the steps of a passage.
 use mathlib.Core.Path.{_≡_}
 use native.Mathlib.Omega.{arith}
-use Rattle.model.specs.Sheet.{scale, passes, sheetVerdict, verdictOutcome, listed, termsOf}
+use Rattle.model.specs.Sheet.{scale, most-steps, passes, sheetVerdict, verdictOutcome, listed, termsOf}
 use Rattle.model.specs.LikeTerms.{gathered}
 use Rattle.laws.specs.Bounds.{Summable}
 use Rattle.model.specs.declared.Sheet.{Sheet}
@@ -22,7 +22,7 @@ pub can-step : (sheet : Sheet) → Counts sheet → sheetVerdict sheet ≡ passe
 unfolding termsOf scale
 can-step sheet counts p terms is =
     record {
-      bounds = rw is (bounds-of-gathered sheet p);
+      bounds = rw is (bounds-of-gathered most-steps sheet p);
       room = counts .n-high;
       tail-low = counts .tail-low;
       tail-high = omega (arith, counts .tail-high);
@@ -31,4 +31,4 @@ can-step sheet counts p terms is =
 -- and what gathering asks
 pub can-gather : (sheet : Sheet) → sheetVerdict sheet ≡ passes → Summable (listed (sheet .terms))
 unfolding termsOf
-can-gather sheet p = bounds-of-sheet sheet p .summable
+can-gather sheet p = bounds-of-sheet most-steps sheet p .summable

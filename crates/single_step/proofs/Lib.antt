@@ -1,2 +1,2 @@
 pub mod AcceptedSheet
-mod AnswerNumber
+mod StepPromised

@@ -2,9 +2,9 @@
 -- is the long passage's own; any other text comes out as itself, or as the reader's refusal.
 use Prim.Native.Nat.{ℕ, suc, _+_, _-_, _≤_, _<_}
 use mathlib.Core.Logic.{inl, inr, ⊎-elim}
-use mathlib.Core.Path.{_≡_, refl, sym, ap, ap₂, _∙_}
+use mathlib.Core.Path.{_≡_, refl, sym, ap, ap₂, subst, _∙_}
 use mathlib.Core.Bool.{Bool, true, false}
-use mathlib.Core.List.{List, map}
+use mathlib.Core.List.{List, _++_, map}
 use native.Mathlib.Omega.{arith}
 use borrow.Author.Tests.{le-leb, lt-leb}
 use lib.ListN.{length, getD, length-map}
@@ -14,9 +14,12 @@ use Rattle.laws.specs.ReadingMeans.{ZeroPastCounts}
 use Rattle.model.specs.Reading.{readSheetTo, readSheet}
 use Rattle.model.specs.Step.{no-ball, reach}
 use Rattle.model.specs.declared.Ball.{Ball}
-use Rattle.model.specs.Passage.{small, run}
+use Rattle.enclosure.specs.Trust.{TrustedOf, SpannedOf}
+use Rattle.enclosure.proofs.Spanned.{run-spanned}
+use Rattle.enclosure.proofs.Trusted.{run-trusted}
+use Rattle.model.specs.Passage.{small, Run, run}
 use Rattle.model.specs.Answer.{outcomeText}
-use Rattle.stored.specs.Conversion.{sheetText, withSteps, firstPart, startingFrom, secondPart, lastBalls, partsText, splitText, convertedBy, converted, joined, Split, ComesOut, refused-sheet, unaltered, refused-passage, two-sheets}
+use Rattle.stored.specs.Conversion.{sheetText, withSteps, firstPart, startingFrom, secondPart, lastBalls, partsText, splitText, convertedBy, converted, joined, Split, ComesOut, ComesOutAs, refused-sheet, unaltered, refused-passage, two-sheets}
 use Rattle.model.specs.declared.Head.{Head}
 use Rattle.model.specs.declared.Sheet.{Sheet}
 use Rattle.model.specs.declared.ReadSheet.{ReadSheet}
@@ -151,22 +154,34 @@ module _ (text : List ℕ) where
                 text-is = long-comes-out ∙ rw (accepted, splitText, is-small, partsText);
                 first-read = ap (λ (read : ReadSheet). read .outcome) first-read;
                 second-read = ap (λ (read : ReadSheet). read .outcome) second-read;
+                first-taken = ap (λ (read : ReadSheet). run (read .sheet) .outcome) first-read ∙ accepted;
+                second-starts = ap (λ (read : ReadSheet). startsOf (read .sheet)) second-read ∙ second-starts most-steps stored reached wide ∙ sym (ap (λ (read : ReadSheet). lastBalls (run (read .sheet) .rows)) first-read);
                 first-steps = ap (λ (read : ReadSheet). read .sheet .head .steps) first-read;
                 second-small = ap (λ (read : ReadSheet). small (startsOf (read .sheet))) second-read ∙ ap small (second-starts most-steps stored reached wide) ∙ is-small;
-                whole = parts-are-whole stored most-steps (omega arith) (omega arith) accepted ∙ sym (ap₂ (λ (first second : ReadSheet). joined (run (first .sheet)) (run (second .sheet))) first-read second-read);
+                whole = both;
+                trusted = subst (TrustedOf stored) rows (run-trusted stored-steps stored (acceptable .verdict));
+                spanned = subst (SpannedOf stored) rows (run-spanned stored-steps stored (acceptable .verdict));
               }
+            where
+              both : run stored ≡ joined (run (readSheet (sheetText firstSheet) .sheet)) (run (readSheet (sheetText secondSheet) .sheet))
+              both =
+                  parts-are-whole stored most-steps (omega arith) (omega arith) accepted ∙ sym (ap₂ (λ (first second : ReadSheet). joined (run (first .sheet)) (run (second .sheet))) first-read second-read)
+
+              rows : run stored .rows ≡ run (readSheet (sheetText firstSheet) .sheet) .rows ++ run (readSheet (sheetText secondSheet) .sheet) .rows
+              rows = unfold joined in ap (λ (run : Run). run .rows) both
 
 -- Every stored sheet comes out so.
-pub comes-out : (text : List ℕ) → ComesOut text (converted text)
+pub comes-out : (text : List ℕ) → ComesOutAs text (converted text)
+unfolding ComesOutAs
 comes-out text = go (readSheetTo stored-steps text .outcome) refl
   where
-    by-size : readSheetTo stored-steps text .outcome ≡ Accepted → most-steps < stored text .head .steps → run (firstSheet text) .outcome ≡ Accepted → (b : Bool) → small (reached text) ≡ b → ComesOut text (converted text)
+    by-size : readSheetTo stored-steps text .outcome ≡ Accepted → most-steps < stored text .head .steps → run (firstSheet text) .outcome ≡ Accepted → (b : Bool) → small (reached text) ≡ b → ComesOut (readSheetTo stored-steps text) text (converted text)
     by-size read long accepted true e = two-sheets read long (conversion-keeps-rows text read long accepted e)
     by-size read long accepted false e =
         let own = large-is-own text read long accepted e in
         refused-passage read long (own .1) (inr (refl, refl)) (own .0)
 
-    by-run : readSheetTo stored-steps text .outcome ≡ Accepted → most-steps < stored text .head .steps → (outcome : Outcome) → run (firstSheet text) .outcome ≡ outcome → ComesOut text (converted text)
+    by-run : readSheetTo stored-steps text .outcome ≡ Accepted → most-steps < stored text .head .steps → (outcome : Outcome) → run (firstSheet text) .outcome ≡ outcome → ComesOut (readSheetTo stored-steps text) text (converted text)
     by-run read long Accepted e = by-size read long e (small (reached text)) refl
     by-run read long (Refused r step) e =
         let own = refusal-is-own text read long e in
@@ -175,7 +190,7 @@ comes-out text = go (readSheetTo stored-steps text .outcome) refl
         first-refused : refusedStep (run (firstSheet text) .outcome) ≤ firstSheet text .head .steps → run (firstSheet text) .outcome ≡ Refused r step → step ≤ most-steps
         first-refused h e = unfold refusedStep firstPart withSteps in omega (arith, rw e at h)
 
-    go : (outcome : Outcome) → readSheetTo stored-steps text .outcome ≡ outcome → ComesOut text (converted text)
+    go : (outcome : Outcome) → readSheetTo stored-steps text .outcome ≡ outcome → ComesOut (readSheetTo stored-steps text) text (converted text)
     go (Refused r step) e = refused-sheet e (refused-comes-out text e)
     go Accepted e =
         ⊎-elim (λ (long : most-steps < stored text .head .steps). by-run e long (run (firstSheet text) .outcome) refl) (λ (short : stored text .head .steps ≤ most-steps). unaltered e short (short-comes-out text e short)) (before-or-past most-steps (stored text .head .steps))

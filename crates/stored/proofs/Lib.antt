@@ -2,5 +2,5 @@
 pub mod RoundTrip
 pub mod Parts
 pub mod Conversion
-pub mod ConversionInWords
+pub mod ComesOutInWords
 pub mod Cases

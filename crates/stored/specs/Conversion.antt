@@ -14,6 +14,7 @@ use Rattle.model.specs.Reading.{readSheetTo, readSheet}
 use Rattle.model.specs.Step.{Row, no-row}
 use Rattle.model.specs.Passage.{small, Run, run}
 use Rattle.model.specs.Answer.{printed, outcomeText}
+use Rattle.enclosure.specs.Trust.{TrustedOf, SpannedOf}
 use Rattle.model.specs.declared.Head.{Head}
 use Rattle.model.specs.declared.Ball.{Ball}
 use Rattle.model.specs.declared.Start.{Start}
@@ -21,6 +22,7 @@ use Rattle.model.specs.declared.Start.the-variants.{Reading, Missing}
 use Rattle.model.specs.declared.Quantity.{Quantity}
 use Rattle.model.specs.declared.Term.{Term}
 use Rattle.model.specs.declared.Sheet.{Sheet}
+use Rattle.model.specs.declared.ReadSheet.{ReadSheet}
 use Rattle.model.specs.declared.Refusal.{Refusal}
 use Rattle.model.specs.declared.Refusal.the-variants.{TooLarge}
 use Rattle.model.specs.declared.Outcome.{Outcome}
@@ -132,8 +134,9 @@ unfoldable pub joined : Run → Run → Run
 joined first second =
     record { rows = first .rows ++ second .rows; outcome = later (length (first .rows)) (second .outcome) }
 
--- A long passage in two: what is printed is two sheets with an empty line between them, the reader of a passage's sheet takes each, the first has as many
--- steps as a passage may have, the second passes question 4, and one passage and then the other is the long one, with its rows and its outcome.
+-- A long passage in two: what is printed is two sheets with an empty line between them, and the reader of a passage's sheet takes each. The first has as
+-- many steps as a passage may have, all of which are taken; the second starts from its last values and radii, which pass question 4. One passage and then
+-- the other is the long one, with its rows and its outcome; and of the rows of both, as one list, demand 3 holds and what is said of the water between them.
 pub record Split (long : Sheet) (text : List ℕ) : Type 0 where
   pub first : List ℕ
   pub second : List ℕ
@@ -141,16 +144,24 @@ pub record Split (long : Sheet) (text : List ℕ) : Type 0 where
   pub first-read : readSheet first .outcome ≡ Accepted
   pub second-read : readSheet second .outcome ≡ Accepted
   pub first-steps : readSheet first .sheet .head .steps ≡ most-steps
+  pub first-taken : run (readSheet first .sheet) .outcome ≡ Accepted
+  pub second-starts : startsOf (readSheet second .sheet) ≡ lastBalls (run (readSheet first .sheet) .rows)
   pub second-small : small (startsOf (readSheet second .sheet)) ≡ true
   pub whole : run long ≡ joined (run (readSheet first .sheet)) (run (readSheet second .sheet))
+  pub trusted : TrustedOf long (run (readSheet first .sheet) .rows ++ run (readSheet second .sheet) .rows)
+  pub spanned : SpannedOf long (run (readSheet first .sheet) .rows ++ run (readSheet second .sheet) .rows)
 
--- How a stored sheet comes out of its conversion.
-pub data ComesOut (text into : List ℕ) : Type 0 where
+-- How a stored sheet's text comes out of its conversion, by what it is read as.
+pub data ComesOut (read : ReadSheet) (text into : List ℕ) : Type 0 where
   -- refused as a sheet: as its refusal
-  refused-sheet : {r : Refusal} {step : ℕ} → readSheetTo stored-steps text .outcome ≡ Refused r step → into ≡ outcomeText (Refused r step) → ComesOut text into
+  refused-sheet : {r : Refusal} {step : ℕ} → read .outcome ≡ Refused r step → into ≡ outcomeText (Refused r step) → ComesOut read text into
   -- with no more steps than a passage may have: unaltered
-  unaltered : readSheetTo stored-steps text .outcome ≡ Accepted → readSheetTo stored-steps text .sheet .head .steps ≤ most-steps → into ≡ text → ComesOut text into
+  unaltered : read .outcome ≡ Accepted → read .sheet .head .steps ≤ most-steps → into ≡ text → ComesOut read text into
   -- with more: as the long passage's own refusal, at one of the steps of the first part or, by question 4, at the step after them ..
-  refused-passage : {r : Refusal} {step : ℕ} → readSheetTo stored-steps text .outcome ≡ Accepted → most-steps < readSheetTo stored-steps text .sheet .head .steps → run (readSheetTo stored-steps text .sheet) .outcome ≡ Refused r step → (step ≤ most-steps) ⊎ ((r ≡ TooLarge) × (step ≡ suc most-steps)) → into ≡ outcomeText (Refused r step) → ComesOut text into
+  refused-passage : {r : Refusal} {step : ℕ} → read .outcome ≡ Accepted → most-steps < read .sheet .head .steps → run (read .sheet) .outcome ≡ Refused r step → (step ≤ most-steps) ⊎ ((r ≡ TooLarge) × (step ≡ suc most-steps)) → into ≡ outcomeText (Refused r step) → ComesOut read text into
   -- .. or in two
-  two-sheets : readSheetTo stored-steps text .outcome ≡ Accepted → most-steps < readSheetTo stored-steps text .sheet .head .steps → Split (readSheetTo stored-steps text .sheet) into → ComesOut text into
+  two-sheets : read .outcome ≡ Accepted → most-steps < read .sheet .head .steps → Split (read .sheet) into → ComesOut read text into
+
+-- how a stored sheet comes out
+unfoldable pub ComesOutAs : List ℕ → List ℕ → Type 0
+ComesOutAs text into = ComesOut (readSheetTo stored-steps text) text into

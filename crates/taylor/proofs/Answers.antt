@@ -26,7 +26,7 @@ use Rattle.ranges.proofs.Ranges.{below, largest-bounded}
 use Rattle.laws.proofs.Bounds.Invariant.{scale-le-greatest}
 use Rattle.laws.proofs.Steps.StepTaken.{length-row}
 use Rattle.ratio.specs.Ratio.{Reaching}
-use Rattle.taylor.specs.StepAnswers.{rowLaidOut, answered}
+use Rattle.taylor.specs.StepAnswers.{advanceOf, rowLaidOut, answered}
 use Rattle.taylor.specs.declared.step.Advance.the-variants.{Moves}
 use Rattle.taylor.specs.declared.step.Numbers.{Numbers}
 use Rattle.taylor.specs.declared.step.Stepped.{Stepped}
@@ -82,13 +82,13 @@ module _ (terms : List Term) (head : Head) (start : Balls) where
 
   -- question 4 is answered no
   pub too-large : small-in-arrays ≡ false → answered start (passage.stops TooLarge) ≡ answer
-  unfolding passage.advance question answered
+  unfolding passage.advance question answered advanceOf
   too-large no-4 = rw (small-is (head .n) (start .values) (start .radii), no-4)
 
   module _ (yes-4 : small-in-arrays ≡ true) (q : ℕ) (is-ratio : q ≡ ratio terms (head .step) (head .n) (greatest balls)) where
     -- question 5 is answered no
     pub too-long : most-ratio < q → answered start (passage.stops StepTooLong) ≡ answer
-    unfolding passage.advance question answered
+    unfolding passage.advance question answered advanceOf
     too-long no-5 =
         rw (small-is (head .n) (start .values) (start .radii), yes-4, slow-is terms (head .step) (head .n) (start .values) (start .radii), ← is-ratio, lt-leb q most-ratio no-5)
 
@@ -105,12 +105,12 @@ module _ (terms : List Term) (head : Head) (start : Balls) where
 
       -- question 6 is answered no
       pub intolerable : tolerable-in-arrays (row .balls) ≡ false → answered start (passage.stops Intolerable) ≡ answer
-      unfolding question answered
+      unfolding question answered advanceOf
       intolerable no-6 = rw (goes-on, no-6)
 
       -- all are answered yes
       pub moved : {d : ℕ} → d ≡ next-row .degree → tolerable-in-arrays (row .balls) ≡ true → record { advance = Moves d; numbers = row } ≡ answer
-      unfolding question answered
+      unfolding question answered advanceOf
       moved is-degree yes-6 = rw (goes-on, yes-6, is-row, is-degree)
 
 -- ---- what questions 4 and 5, answered yes, give the calls after them

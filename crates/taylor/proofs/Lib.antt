@@ -1,2 +1,3 @@
 mod StepRow
 pub mod Answers
+pub mod AnswerInWords

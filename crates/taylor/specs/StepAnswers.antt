@@ -1,11 +1,11 @@
 -- What the code asks of a step and answers to it, by the definition of the step.
 use Prim.Native.Nat.{ℕ, _^_, _≤_}
-use mathlib.Core.List.{List}
+use mathlib.Core.List.{List, [], _∷_}
 use mathlib.Core.Path.{_≡_}
 use lib.IntN.{ℤ}
 use Rattle.model.specs.Sheet.{number, most-quantities}
 use Rattle.model.specs.Step.{most-degree, Row}
-use Rattle.model.specs.Rows.{laidOut, spansLaidOut, no-spans}
+use Rattle.model.specs.Rows.{ballsOf, laidOut, spansOf, spansLaidOut, no-spans}
 use Rattle.model.specs.Passage as passage
 use Rattle.laws.specs.Bounds.{TermsInBounds, InBounds}
 use Rattle.model.specs.declared.Ball.{Ball}
@@ -38,18 +38,31 @@ pub record CanRow (head : Head) (cut : Truncation) (terms : List Term) (balls : 
 
 -- ---- what it comes to
 
+-- a step's answer: the row's degree, or the refusal
+unfoldable pub advanceOf : passage.Advance → Advance
+advanceOf (passage.moves row) = Moves (row .degree)
+advanceOf (passage.stops r) = Stops r
+
 -- a row's balls and spans, laid out
 unfoldable pub rowLaidOut : Row → Numbers
 rowLaidOut row = record { balls = laidOut (row .balls); spans = spansLaidOut (row .spans) }
 
 -- a step's answer, whole: the row's degree, its balls and spans laid out; or the refusal, the balls that the step started from, and no spans
 unfoldable pub answered : Balls → passage.Advance → Stepped
-answered start (passage.moves row) = record { advance = Moves (row .degree); numbers = rowLaidOut row }
-answered start (passage.stops r) = record { advance = Stops r; numbers = record { balls = start; spans = no-spans } }
+answered start (passage.moves row) = record { advance = advanceOf (passage.moves row); numbers = rowLaidOut row }
+answered start (passage.stops r) = record { advance = advanceOf (passage.stops r); numbers = record { balls = start; spans = no-spans } }
+
+-- the row of a degree and of the numbers of n quantities, as they are laid out
+abbrev pub rowOf : ℕ → ℕ → Numbers → Row
+rowOf n degree numbers = record { degree = degree; balls = ballsOf n (numbers .balls); spans = spansOf n (numbers .spans) }
+
+-- the row that an answer gives, alone; a refusal gives none
+unfoldable pub rowsGiven : ℕ → Stepped → List Row
+rowsGiven n stepped = elim (stepped .advance) [ Moves degree ↦ rowOf n degree (stepped .numbers) ∷ [] | Stops r ↦ [] ]
 
 -- ---- document 01's number and values of an answer
 
--- the number of the code's answer: 0 where there is a row
+-- its number: 0 where there is a row
 unfoldable pub advanceNumber : Advance → ℕ
 advanceNumber (Moves degree) = 0
 advanceNumber (Stops r) = number r
@@ -59,12 +72,7 @@ unfoldable pub advanceDegree : Advance → ℕ
 advanceDegree (Moves degree) = degree
 advanceDegree (Stops r) = 0
 
--- the degree of the row that the definition comes to, and 0 where it refuses
-unfoldable pub degreeOf : passage.Advance → ℕ
-degreeOf (passage.moves row) = row .degree
-degreeOf (passage.stops r) = 0
-
--- an answer has the number and the degree of what the definition comes to
-pub record Numbered (answer : Advance) (meant : passage.Advance) : Type 0 where
-  pub number-is : advanceNumber answer ≡ passage.advanceNumber meant
-  pub degree-is : advanceDegree answer ≡ degreeOf meant
+-- an answer has this number and this degree
+pub record Numbered (answer : Advance) (number degree : ℕ) : Type 0 where
+  pub number-is : advanceNumber answer ≡ number
+  pub degree-is : advanceDegree answer ≡ degree

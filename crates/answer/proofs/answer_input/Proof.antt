@@ -2,7 +2,7 @@
 use Prim.Native.Nat.{_≤_, _<_}
 use lib.ListN.{length, take}
 use Rattle.model.specs.Sheet.{most-bytes}
-use Rattle.answer.proofs.Answered.{text-trusted, alike-by-front}
+use Rattle.answer.proofs.Answered.{answer-trusted, answer-spanned, alike-by-front}
 use borrow.Author.Needs.{needs}
 use Rattle.answer.proofs.answer_input.Statement.{statement}
 use Rattle.answer.proofs.answer_input.Tie as tie
@@ -20,7 +20,7 @@ returns c =
     let args = c .before .before .before .before .args in
     let bytes = take (args .count) (args .sheet .now) in
     let printed = rw (c .before .before .front .ensures) at (c .answer-sheet .ensures .0) in
-    (printed, (whole c, (text-trusted bytes printed, λ input e. alike-by-front (length (args .sheet .now)) input bytes (room c) e)))
+    (printed, (whole c, (answer-trusted bytes, (answer-spanned bytes, λ input e. alike-by-front (length (args .sheet .now)) input bytes (room c) e))))
 
 front-requires : tie.Need-front-requires
 front-requires c κs = search needs

@@ -3,7 +3,7 @@ use mathlib.Core.List.{List}
 use mathlib.Core.Path.{subst}
 use Prim.Native.Nat.{ℕ}
 use Rattle.printing.specs.Pieces.{Printed}
-use Rattle.answer.proofs.Answered.{ran-text, ran-bounds, ran-in-range, ran-step, ran-short, ran-trusted, ran-spanned}
+use Rattle.answer.proofs.Answered.{ran-text, ran-bounds, ran-in-range, ran-step, ran-short, ran-leaves}
 use borrow.Author.Needs.{needs}
 use Rattle.answer.proofs.planner_answer.Statement.{statement}
 use Rattle.answer.proofs.planner_answer.Tie as tie
@@ -15,7 +15,7 @@ returns c =
     let args = run .before .before .before .before .args in
     let ran = run .run-sheet .ensures in
     let printed = subst (λ (text : List ℕ). Printed (args .text .now) text (put .put-run .result) (put .put-run .last .0)) (ran-text (args .sheet .now) ran) (put .put-run .ensures) in
-    (printed, (ran .buffer, (ran-short (args .sheet .now) ran printed, (ran-trusted (args .sheet .now) ran, ran-spanned (args .sheet .now) ran))))
+    (printed, (ran-short (args .sheet .now) ran printed, ran-leaves (args .sheet .now) ran))
 
 put-run-requires : tie.Need-put-run-requires
 put-run-requires c κs =

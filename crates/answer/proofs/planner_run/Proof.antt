@@ -1,7 +1,7 @@
 -- `answer::planner_run` meets its contract.
 use mathlib.Core.Path.{ap, _∙_}
 use Rattle.answer.specs.Answered.{summaryOf}
-use Rattle.answer.proofs.Answered.{ran-trusted, ran-spanned}
+use Rattle.answer.proofs.Answered.{ran-leaves}
 use borrow.Author.Needs.{needs}
 use Rattle.answer.proofs.planner_run.Statement.{statement}
 use Rattle.answer.proofs.planner_run.Tie as tie
@@ -10,7 +10,7 @@ returns : tie.Need-returns
 returns c =
     let run = c .before .before .before in
     let ran = run .run-sheet .ensures in
-    (c .put-summary .ensures ∙ ap summaryOf (ran .answer), (ran .buffer, (ran-trusted (run .before .before .before .args .sheet .now) ran, ran-spanned (run .before .before .before .args .sheet .now) ran)))
+    (c .put-summary .ensures ∙ ap summaryOf (ran .answer), ran-leaves (run .before .before .before .args .sheet .now) ran)
 
 run-sheet-requires : tie.Need-run-sheet-requires
 run-sheet-requires c κs = search needs

@@ -16,7 +16,7 @@ returns-2 c =
     let accepted = run .before .before in
     let read = accepted .before .before .before in
     let args = read .before .before .args in
-    rw (c .rows-written .ensures) (ran-accepted (args .sheet .now) (read .read .ensures .0) (args .rows .now) (accepted .enum-told2 .given .1) (run .run .ensures .0 .answer) (run .run .ensures .0 .buffer))
+    rw (c .rows-written .ensures) (ran-accepted (args .sheet .now) (read .read .ensures .0) (args .rows .now) (accepted .enum-told2 .given .1) (run .run .ensures .0) (run .run .ensures .1 .0 .buffer))
 
 read-requires : tie.Need-read-requires
 read-requires c κs = search needs

@@ -2,7 +2,8 @@
 use Prim.Native.Nat.{_≤_, _<_}
 use lib.ListN.{length, take}
 use Rattle.model.specs.Sheet.{most-bytes}
-use Rattle.conversion.proofs.Converted.{text-comes-out, alike-by-front}
+use Rattle.stored.proofs.Conversion.{comes-out}
+use Rattle.conversion.proofs.Converted.{alike-by-front}
 use borrow.Author.Needs.{needs}
 use Rattle.conversion.proofs.convert_input.Statement.{statement}
 use Rattle.conversion.proofs.convert_input.Tie as tie
@@ -20,7 +21,7 @@ returns c =
     let args = c .before .before .before .before .args in
     let bytes = take (args .count) (args .sheet .now) in
     let printed = rw (c .before .before .front .ensures) at (c .convert-sheet .ensures .0) in
-    (printed, (whole c, (text-comes-out bytes printed, λ input e. alike-by-front (length (args .sheet .now)) input bytes (room c) e)))
+    (printed, (whole c, (comes-out bytes, λ input e. alike-by-front (length (args .sheet .now)) input bytes (room c) e)))
 
 front-requires : tie.Need-front-requires
 front-requires c κs = search needs

@@ -6,7 +6,7 @@ use borrow.Author.Tests.{leb-true}
 use Rattle.model.specs.Sheet.{most-quantities, most-steps}
 use Rattle.model.specs.Rows.{width}
 use Rattle.printing.specs.Pieces.{Printed}
-use Rattle.conversion.proofs.Converted.{most-are-enough, text-comes-out}
+use Rattle.conversion.proofs.Converted.{most-are-enough}
 use borrow.Author.Needs.{needs}
 use Rattle.conversion.proofs.convert_sheet.Statement.{statement}
 use Rattle.conversion.proofs.convert_sheet.Tie as tie
@@ -17,7 +17,7 @@ returns c =
     let converted = c .before .before .before in
     let args = converted .before .before .before .before .before .args in
     let printed = subst (λ (text : List ℕ). Printed (args .text .now) text (converted .planner-convert .result) (converted .planner-convert .last .1 .1 .0)) (most-are-enough (args .sheet .now) _ (leb-true (most-steps * width most-quantities) _ refl)) (converted .planner-convert .ensures .0) in
-    (printed, (converted .planner-convert .ensures .1 .1 .0, text-comes-out (args .sheet .now) printed))
+    (printed, converted .planner-convert .ensures .1 .0)
 
 slice-aggregate-planner-convert : tie.Need-slice-aggregate-planner-convert
 slice-aggregate-planner-convert c = search needs

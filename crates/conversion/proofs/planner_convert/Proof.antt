@@ -3,7 +3,7 @@ use native.Mathlib.Omega.{arith}
 use lib.ListN.{length}
 use borrow.Author.Needs.{needs}
 use Rattle.printing.proofs.Pieces.{put-same, put-printed}
-use Rattle.conversion.proofs.Converted.{length-refused, refused-printed, refused-unwritten, refused-early, read-passes, read-fits, short-printed, short-unwritten, long-printed, long-written, split-trusted, split-spanned, lent-comes-out}
+use Rattle.conversion.proofs.Converted.{length-refused, refused-printed, refused-unwritten, refused-early, read-passes, read-fits, short-printed, short-unwritten, long-printed, long-written, split-leaves, lent-comes-out}
 use Rattle.conversion.proofs.planner_convert.Statement.{statement}
 use Rattle.conversion.proofs.planner_convert.Tie as tie
 
@@ -21,7 +21,7 @@ returns c =
     let put = c .before .before .put-outcome .ensures in
     let printed = put-printed (put-same (refused-printed (args .sheet .now) is (args .rows .now) refused) put) in
     let buffer = refused-unwritten (args .sheet .now) is (args .rows .now) refused in
-    (printed, (buffer, (omega (arith, put .counted, length-refused _ (refused-early (args .sheet .now) is (args .rows .now) refused)), (split-trusted (args .sheet .now) (args .rows .now) buffer, (split-spanned (args .sheet .now) (args .rows .now) buffer, lent-comes-out (length (args .rows .now)) (args .sheet .now) printed)))))
+    (printed, (omega (arith, put .counted, length-refused _ (refused-early (args .sheet .now) is (args .rows .now) refused)), (split-leaves (args .sheet .now) (args .rows .now) buffer, lent-comes-out (length (args .rows .now)) (args .sheet .now))))
 
 returns-2 : tie.Need-returns-2
 returns-2 c =
@@ -34,7 +34,7 @@ returns-2 c =
     let put = c .before .before .put-front .ensures in
     let printed = put-printed (put-same (short-printed (args .sheet .now) is (args .rows .now) accepted (omega (arith, short .if1 .taken))) put) in
     let buffer = short-unwritten (args .sheet .now) is (args .rows .now) accepted (omega (arith, short .if1 .taken)) in
-    (printed, (buffer, (omega (arith, put .counted, read-fits (args .sheet .now) is (args .rows .now) accepted), (split-trusted (args .sheet .now) (args .rows .now) buffer, (split-spanned (args .sheet .now) (args .rows .now) buffer, lent-comes-out (length (args .rows .now)) (args .sheet .now) printed)))))
+    (printed, (omega (arith, put .counted, read-fits (args .sheet .now) is (args .rows .now) accepted), (split-leaves (args .sheet .now) (args .rows .now) buffer, lent-comes-out (length (args .rows .now)) (args .sheet .now))))
 
 returns-3 : tie.Need-returns-3
 returns-3 c =
@@ -47,7 +47,7 @@ returns-3 c =
     let accepted = told .enum-told2 .given .1 in
     let printed = put-printed (put-same (long-printed (args .sheet .now) is (args .rows .now) accepted (omega (arith, long .if1 .left))) (put .split .ensures .0)) in
     let buffer = long-written (args .sheet .now) is (args .rows .now) accepted (omega (arith, long .if1 .left)) (put .split .ensures .1 .0) in
-    (printed, (buffer, (put .split .ensures .1 .1, (split-trusted (args .sheet .now) (args .rows .now) buffer, (split-spanned (args .sheet .now) (args .rows .now) buffer, lent-comes-out (length (args .rows .now)) (args .sheet .now) printed)))))
+    (printed, (put .split .ensures .1 .1, (split-leaves (args .sheet .now) (args .rows .now) buffer, lent-comes-out (length (args .rows .now)) (args .sheet .now))))
 
 -- ---- what the calls ask
 

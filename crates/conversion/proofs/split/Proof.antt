@@ -20,7 +20,7 @@ returns c =
     let sheet = to-start ran .args .sheet in
     let is = ran .before .before .first-part .ensures in
     let put = c .before .before .put-outcome .ensures in
-    (put-same (kept-refused sheet is (ran .run .ensures .0) (told .enum-told .given .1)) put, (kept-written sheet is (ran .run .ensures .0), omega (arith, put .counted, length-refused _ (kept-early sheet is (ran .run .ensures .0)))))
+    (put-same (kept-refused sheet is (to-start ran .args .rows .now) (ran .run .ensures .0, ran .run .ensures .1 .0 .buffer) (told .enum-told .given .1)) put, (kept-written sheet is (to-start ran .args .rows .now) (ran .run .ensures .0, ran .run .ensures .1 .0 .buffer), omega (arith, put .counted, length-refused _ (kept-early sheet is (to-start ran .args .rows .now) (ran .run .ensures .0, ran .run .ensures .1 .0 .buffer)))))
 
 returns-2 : tie.Need-returns-2
 returns-2 c =
@@ -30,7 +30,7 @@ returns-2 c =
     let sheet = to-start ran .args .sheet in
     let is = ran .before .before .first-part .ensures in
     let put = c .before .before .put-parts .ensures in
-    (put-same (kept-accepted sheet is (ran .run .ensures .0) (told .enum-told2 .given .1) (row-laid-out _ _ _ (balls .balls-of .ensures))) (put .0), (kept-written sheet is (ran .run .ensures .0), put .1))
+    (put-same (kept-accepted sheet is (to-start ran .args .rows .now) (ran .run .ensures .0, ran .run .ensures .1 .0 .buffer) (told .enum-told2 .given .1) (row-laid-out _ _ _ (balls .balls-of .ensures))) (put .0), (kept-written sheet is (to-start ran .args .rows .now) (ran .run .ensures .0, ran .run .ensures .1 .0 .buffer), put .1))
 
 -- ---- what the calls ask
 
@@ -46,7 +46,7 @@ enum-told c = search needs
 put-outcome-requires : tie.Need-put-outcome-requires
 put-outcome-requires c κs =
     let ran = c .before .before .before .before in
-    (kept-early (to-start ran .args .sheet) (ran .before .before .first-part .ensures) (ran .run .ensures .0), omega arith)
+    (kept-early (to-start ran .args .sheet) (ran .before .before .first-part .ensures) (to-start ran .args .rows .now) (ran .run .ensures .0, ran .run .ensures .1 .0 .buffer), omega arith)
 
 same-length : tie.Need-same-length
 same-length c = search needs
@@ -65,7 +65,7 @@ balls-of-requires c κs =
     let told = c .before in
     let ran = told .before .before .before in
     let start = to-start ran in
-    kept-last (start .args .sheet) (ran .before .before .first-part .ensures) (ran .run .ensures .0) (told .enum-told2 .given .1) (few stored-steps (start .args .sheet) (start .pre .0))
+    kept-last (start .args .sheet) (ran .before .before .first-part .ensures) (to-start ran .args .rows .now) (ran .run .ensures .0, ran .run .ensures .1 .0 .buffer) (told .enum-told2 .given .1) (few stored-steps (start .args .sheet) (start .pre .0))
 
 put-parts-requires : tie.Need-put-parts-requires
 put-parts-requires c κs = search needs

@@ -10,7 +10,7 @@ use borrow.Author.Tests.{leb-true}
 use lib.Dec.{leb}
 use lib.IntN.{ℤ, pos, natAbs}
 use lib.ListN.{length, getD, List·getD-eq-default}
-use Rattle.model.specs.Sheet.{passes, inRange, sheetVerdict, no-term, scale, most, most-terms, most-coef, terms-limits, to-limits, first-limits, coef-limits, second-limits, termsOf, most-quantities, most-steps, n-limits, steps-limits, tail-limits, tol-limits}
+use Rattle.model.specs.Sheet.{passes, inRange, sheetVerdictTo, sheetVerdict, no-term, scale, most, most-terms, most-coef, terms-limits, to-limits, first-limits, coef-limits, second-limits, termsOf, most-quantities, most-steps, n-limits, steps-limits, tail-limits, tol-limits}
 use Rattle.model.specs.Step.{no-ball, reach, greatest, ratio}
 use Rattle.model.specs.declared.Ball.{Ball}
 use Rattle.model.specs.Passage.{small, slow, most-ratio}
@@ -34,7 +34,7 @@ unfolding second-limits
 second-at-most n zero second e = omega (arith, in-range {low = 0} {high = 0} second e)
 second-at-most n (suc first) second e = in-range second e .1
 
-module _ (sheet : Sheet) (ranges : SheetInRange most-steps sheet) where
+module _ {high : ℕ} (sheet : Sheet) (ranges : SheetInRange high sheet) where
   count-is : length (termsOf sheet) ≡ sheet .terms .count
   unfolding termsOf
   count-is = length-listed (sheet .terms)
@@ -75,8 +75,9 @@ module _ (sheet : Sheet) (ranges : SheetInRange most-steps sheet) where
         second-high = λ j h. second-at-most (sheet .head .n) _ _ (term-of-sheet j h .second);
       }
 
-pub bounds-of-sheet : (sheet : Sheet) → sheetVerdict sheet ≡ passes → TermsInBounds (termsOf sheet) (sheet .head .step) (sheet .head .n)
-bounds-of-sheet sheet passed = terms-in-bounds sheet (sheet-in-range most-steps sheet passed)
+-- however many steps it may have
+pub bounds-of-sheet : (high : ℕ) (sheet : Sheet) → sheetVerdictTo high sheet ≡ passes → TermsInBounds (termsOf sheet) (sheet .head .step) (sheet .head .n)
+bounds-of-sheet high sheet passed = terms-in-bounds sheet (sheet-in-range high sheet passed)
 
 -- ---- its counts and limits
 

@@ -12,7 +12,7 @@ use lib.IntN.{ℤ, natAbs, _+ℤ_}
 use lib.ListN.{length, getD, take, List·getD-eq-default}
 use Rattle.rounding.proofs.Integers.{abs-add}
 use Rattle.ranges.specs.Range.{sum}
-use Rattle.model.specs.Sheet.{no-term, passes, sheetVerdict, termsOf}
+use Rattle.model.specs.Sheet.{no-term, passes, sheetVerdictTo, termsOf}
 use Rattle.model.specs.LikeTerms.{coefsLike, filter, summed, nonzero, gathered}
 use Rattle.laws.specs.Bounds.{total, TermsInBounds}
 use Rattle.model.specs.declared.Sheet.{Sheet}
@@ -121,5 +121,5 @@ bounds-gathered {terms} {H} {n} bounds =
     either j (inr past) = unfold no-term in rw (List·getD-eq-default (gathered terms) no-term {n = j} past) (λ absent. refl)
 
 -- the gathered terms of a sheet whose verdict passes
-pub bounds-of-gathered : (sheet : Sheet) → sheetVerdict sheet ≡ passes → TermsInBounds (gathered (termsOf sheet)) (sheet .head .step) (sheet .head .n)
-bounds-of-gathered sheet passed = bounds-gathered (bounds-of-sheet sheet passed)
+pub bounds-of-gathered : (high : ℕ) (sheet : Sheet) → sheetVerdictTo high sheet ≡ passes → TermsInBounds (gathered (termsOf sheet)) (sheet .head .step) (sheet .head .n)
+bounds-of-gathered high sheet passed = bounds-gathered (bounds-of-sheet high sheet passed)

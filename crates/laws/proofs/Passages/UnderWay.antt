@@ -10,8 +10,8 @@ use lib.ListN.{length, length-append}
 use lib.Seq.{sets, length-sets}
 use Rattle.model.specs.Step.{Row}
 use Rattle.model.specs.declared.Ball.{Ball}
-use Rattle.model.specs.Passage.{Advance, moves, stops, advance, Run, refused, goOn, follow, Kept}
-use Rattle.model.specs.Rows.{width, rowPlaces, places}
+use Rattle.model.specs.Passage.{Advance, moves, stops, advance, Run, refused, goOn, follow}
+use Rattle.model.specs.Rows.{width, rowPlaces, places, written}
 use Rattle.model.specs.declared.Term.{Term}
 use Rattle.model.specs.declared.Refusal.{Refusal}
 use Rattle.model.specs.declared.Outcome.{Outcome}
@@ -22,6 +22,10 @@ use Rattle.laws.proofs.Passages.RowPlaces.{Quantities, Wide, places-len
 wide-one-more : {n : ℕ} {rows : List Row} (row : Row) → Wide n rows → Quantities n row → Wide n (rows ++ (row ∷ []))
 wide-one-more row none h = entry-first h none
 wide-one-more row (entry-first l w) h = entry-first l (wide-one-more row w h)
+
+-- a run into a lent buffer: the outcome is the run's, and the buffer holds its rows from the front, every other place as it was
+abbrev pub RunInto : Run → List ℤ → List ℤ → Outcome → Type 0
+RunInto run before after outcome = (outcome ≡ run .outcome) × (after ≡ written (run .rows) before)
 
 -- a run, with rows before its own
 unfoldable pub after : List Row → Run → Run
@@ -66,13 +70,10 @@ module _ {terms : List Term} {H : ℤ} {limit tol : ℕ} where
       omega (arith, underway-length u, mul-le-mul-right (width n) h, suc-mul done (width n))
 
   -- nothing is ahead but an outcome
-  ended : {steps n : ℕ} {start : List Ball} {buffer held : List ℤ} {done : ℕ} {balls : List Ball} (outcome : Outcome) → Underway terms H limit tol steps n start buffer done balls held → steps * width n ≤ length buffer → follow terms H limit tol (steps - done) (suc done) balls ≡ record { rows = []; outcome = outcome } → Kept (follow terms H limit tol steps 1 start) buffer held outcome
+  ended : {steps n : ℕ} {start : List Ball} {buffer held : List ℤ} {done : ℕ} {balls : List Ball} (outcome : Outcome) → Underway terms H limit tol steps n start buffer done balls held → steps * width n ≤ length buffer → follow terms H limit tol (steps - done) (suc done) balls ≡ record { rows = []; outcome = outcome } → RunInto (follow terms H limit tol steps 1 start) buffer held outcome
   unfolding after
   ended {steps} {n} {start} {buffer} outcome u room e =
-      record {
-        answer = ap (λ (run : Run). run .outcome) (sym run);
-        buffer = rw run (u .stored ∙ sym (written-is-sets (u .rows) buffer fits));
-      }
+      (ap (λ (run : Run). run .outcome) (sym run), rw run (u .stored ∙ sym (written-is-sets (u .rows) buffer fits)))
     where
       run : follow terms H limit tol steps 1 start ≡ record { rows = u .rows; outcome = outcome }
       run = rw (u .ahead, e, append-nil (u .rows))
@@ -92,12 +93,12 @@ module _ {terms : List Term} {H : ℤ} {limit tol : ℕ} where
         stored = rw (u .stored, ← (places-done u), ← (sets-one-row-more buffer (u .rows) row));
       }
 
-  pub finished-by-refusal : {steps n : ℕ} {start : List Ball} {buffer held : List ℤ} {done : ℕ} {balls : List Ball} (r : Refusal) → Underway terms H limit tol steps n start buffer done balls held → steps * width n ≤ length buffer → done < steps → advance terms H limit tol balls ≡ stops r → Kept (follow terms H limit tol steps 1 start) buffer held (Refused r (done + 1))
+  pub finished-by-refusal : {steps n : ℕ} {start : List Ball} {buffer held : List ℤ} {done : ℕ} {balls : List Ball} (r : Refusal) → Underway terms H limit tol steps n start buffer done balls held → steps * width n ≤ length buffer → done < steps → advance terms H limit tol balls ≡ stops r → RunInto (follow terms H limit tol steps 1 start) buffer held (Refused r (done + 1))
   unfolding goOn refused
   finished-by-refusal {steps} {done = done} {balls = balls} r u room h e =
       ended (Refused r (done + 1)) u room (next-step terms H limit tol steps done balls (stops r) h e)
 
-  pub finished : {steps n : ℕ} {start : List Ball} {buffer held : List ℤ} {done : ℕ} {balls : List Ball} → Underway terms H limit tol steps n start buffer done balls held → steps * width n ≤ length buffer → steps ≤ done → Kept (follow terms H limit tol steps 1 start) buffer held Accepted
+  pub finished : {steps n : ℕ} {start : List Ball} {buffer held : List ℤ} {done : ℕ} {balls : List Ball} → Underway terms H limit tol steps n start buffer done balls held → steps * width n ≤ length buffer → steps ≤ done → RunInto (follow terms H limit tol steps 1 start) buffer held Accepted
   unfolding follow
   finished {steps} {done = done} u room h = ended Accepted u room (rw none-left)
     where

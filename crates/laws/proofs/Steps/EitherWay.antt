@@ -12,7 +12,8 @@ use Rattle.rounding.proofs.Integers.{abs-neg}
 use Rattle.ranges.specs.Range.{tabulate, every}
 use Rattle.model.specs.Step.{no-ball, greatest, ratio, Row, Coefficients, newBall, newRow, stepRow}
 use Rattle.model.specs.declared.Ball.{Ball}
-use Rattle.model.specs.Passage.{Advance, advanceNumber, question, most-ratio, slow, tolerable, tolerated, advance}
+use Rattle.model.specs.Sheet.{Verdict, passes, refuses}
+use Rattle.model.specs.Passage.{Advance, moves, stops, question, most-ratio, slow, tolerable, tolerated, advance}
 use Rattle.model.specs.declared.Refusal.{Refusal}
 use Rattle.model.specs.declared.Refusal.the-variants.{TooLarge, StepTooLong, Intolerable}
 use Rattle.model.specs.declared.Term.{Term}
@@ -64,17 +65,22 @@ tolerable-alike : (tol : ℕ) {a b : Row} → SameRadii a b → tolerable tol (a
 unfolding tolerable
 tolerable-alike tol same = ap₂ every (same .quantities) (λ t i. leb (same .radius i t) tol)
 
-question-alike : {a b : Bool} (r : Refusal) (x y : Advance) → a ≡ b → advanceNumber x ≡ advanceNumber y → advanceNumber (question a r x) ≡ advanceNumber (question b r y)
+-- the refusal that a step comes to, if it is refused
+unfoldable pub refusalOf : Advance → Verdict
+refusalOf (moves row) = passes
+refusalOf (stops r) = refuses r
+
+question-alike : {a b : Bool} (r : Refusal) (x y : Advance) → a ≡ b → refusalOf x ≡ refusalOf y → refusalOf (question a r x) ≡ refusalOf (question b r y)
 unfolding question
 question-alike {a} {b} r x y e h = rw e (go b)
   where
-    go : (b : Bool) → advanceNumber (question b r x) ≡ advanceNumber (question b r y)
+    go : (b : Bool) → refusalOf (question b r x) ≡ refusalOf (question b r y)
     go true = h
     go false = refl
 
--- a step back is refused just where the step forward is, by the same number
-pub refused-either-way : (terms : List Term) (H : ℤ) (limit tol : ℕ) (balls : List Ball) → advanceNumber (advance terms (negℤ H) limit tol balls) ≡ advanceNumber (advance terms H limit tol balls)
-unfolding advance tolerated slow advanceNumber
+-- a step back is refused just where the step forward is, and by the same refusal
+pub refused-either-way : (terms : List Term) (H : ℤ) (limit tol : ℕ) (balls : List Ball) → refusalOf (advance terms (negℤ H) limit tol balls) ≡ refusalOf (advance terms H limit tol balls)
+unfolding advance tolerated slow refusalOf
 refused-either-way terms H limit tol balls =
     question-alike TooLarge _ _ refl
     (question-alike StepTooLong _ _ (ap (λ (q : ℕ). leb q most-ratio) (ratio-either-way terms H balls (length balls) (greatest balls)))

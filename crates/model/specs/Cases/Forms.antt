@@ -13,7 +13,7 @@ use Rattle.model.specs.Sheet.{number, result, refusedStep, verdictNumber
 use Rattle.model.specs.Reading.{Spelled, spelled, wrong, natural, signed, readSheetTo, readSheet}
 use Rattle.model.specs.LikeTerms.{gathered}
 use Rattle.model.specs.Step.{Ball, Span, Row}
-use Rattle.model.specs.Passage.{Advance, advanceNumber, stepOf, passage, rowsWritten}
+use Rattle.model.specs.Passage.{Advance, stepOf, passage, rowsWritten}
 use Rattle.model.specs.Rows.{laidOut, ballsOf, spansLaidOut, spansOf, no-spans, written, rowsIn}
 use Rattle.model.specs.Answer.{decimal, runOf, answer}
 use Rattle.model.specs.declared.Refusal.{Refusal}
@@ -146,10 +146,6 @@ verdictTo high sheet number =
 -- a refusal has this number
 abbrev pub numbered : Refusal → ℕ → Case
 numbered refusal n = (whole (pos (number refusal)), whole (pos n))
-
--- one step of a sheet has this number: 0, or that of its refusal
-abbrev pub stepNumber : Sheet → List Ball → ℕ → Case
-stepNumber sheet from n = (whole (pos (advanceNumber (stepOf sheet from))), whole (pos n))
 
 -- balls and spans are laid out in these arrays, and read back from there
 abbrev pub laid : List Ball → List Span → Balls → Spans → Case

@@ -2,7 +2,7 @@
 use Prim.Native.String.{_++_ as _&_}
 use mathlib.Core.List.{List, [], _∷_}
 use lib.IntN.{ℤ, pos, negℤ}
-use Rattle.model.specs.Cases.Forms.{Case, prints, opensAt, opens, ends, steps, stepNumber}
+use Rattle.model.specs.Cases.Forms.{Case, prints, opensAt, opens, ends, steps}
 use Rattle.model.specs.Cases.Sheets.{sheetLines, termLines, one, square, two, term, A-terms, A-given, A-by}
 use Rattle.model.specs.Step.{Ball, Row}
 use Rattle.model.specs.Passage.{moves, stops}
@@ -49,7 +49,4 @@ steps-taken =
     ∷ ends "n=3\nsteps=1\nstep=1\ntail=2\ntol=1\nstart=0\nradius=0\nstart=0\nradius=2\nstart=0\nradius=0\nterms=0\n" 8 1
     -- question 5 comes before question 6
     ∷ ends (sheetLines "1" "8388609" "349526" "1" "16777216" "0" square) 7 1
-    -- the number of one step by itself
-    ∷ stepNumber (A-given (pos 4194304) 349534 A-terms) A-start 0
-    ∷ stepNumber (A-given (pos 4194304) 349533 A-terms) A-start 8
     ∷ []

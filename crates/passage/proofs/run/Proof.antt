@@ -11,21 +11,22 @@ use Rattle.model.specs.declared.Sheet.{Sheet}
 use Rattle.model.specs.declared.Terms.{Terms}
 use Rattle.model.specs.Sheet.{most, passes, refuses, sheetVerdict, verdictOutcome, listed, termsOf, startsOf}
 use Rattle.model.specs.LikeTerms.{gathered}
-use Rattle.model.specs.Passage.{placesNeeded, follow, run, passage, Kept}
+use Rattle.model.specs.Passage.{placesNeeded, follow, run, passage}
 use Rattle.model.specs.Rows.{width, ballsOf}
 use Rattle.laws.proofs.Passages.RowPlaces.{rows-fit}
 use Rattle.verdict.proofs.Outcomes.{refuses-as}
 use Rattle.laws.proofs.Bounds.SheetBounds.{Counts}
 use Rattle.single_step.proofs.AcceptedSheet.{passed, can-step, can-gather}
-use Rattle.enclosure.proofs.PromisedRows.{kept-refused, kept-too-few-places, kept-run, promised}
+use Rattle.laws.proofs.Passages.UnderWay.{RunInto}
+use Rattle.enclosure.proofs.PromisedRows.{run-refused, run-too-few-places, run-through, promised}
 use borrow.Author.Needs.{needs}
 use Rattle.passage.proofs.run.Statement.{statement}
 use Rattle.passage.proofs.run.Tie as tie
 
 -- the outcome of a verdict that refuses
-verdict-kept : (sheet : Sheet) (buffer : List ℤ) {given : Outcome} {r : Refusal} → given ≡ verdictOutcome (sheetVerdict sheet) → sheetVerdict sheet ≡ refuses r → Kept (passage sheet (length buffer)) buffer buffer given
+verdict-refused : (sheet : Sheet) (buffer : List ℤ) {given : Outcome} {r : Refusal} → given ≡ verdictOutcome (sheetVerdict sheet) → sheetVerdict sheet ≡ refuses r → RunInto (passage sheet (length buffer)) buffer buffer given
 unfolding verdictOutcome
-verdict-kept sheet buffer e refused = rw (e, refused) (kept-refused sheet buffer refused)
+verdict-refused sheet buffer e refused = rw (e, refused) (run-refused sheet buffer refused)
 
 -- the sheet's counts, where its verdict is not a refusal
 accepted : (c : tie.After-enum-told2) → Counts (c .before .before .before .args .sheet) × (sheetVerdict (c .before .before .before .args .sheet) ≡ passes)
@@ -36,19 +37,19 @@ returns c =
     let args = c .before .before .before .args in
     let verdict = c .before .before .verdict in
     let refused = refuses-as (sheetVerdict (args .sheet)) (verdict .ensures .0) (c .enum-told .given .1) in
-    promised (args .sheet) (verdict-kept (args .sheet) (args .rows .now) (verdict .ensures .0) refused)
+    promised (args .sheet) (args .rows .now) (verdict-refused (args .sheet) (args .rows .now) (verdict .ensures .0) refused)
 
 returns-2 : tie.Need-returns-2
 unfolding placesNeeded
 returns-2 c =
     let told = c .before .before .before .before in
     let args = told .before .before .before .args in
-    promised (args .sheet) (kept-too-few-places (args .sheet) (args .rows .now) (accepted told .1) (rw (c .before .before .width .ensures) at (c .if1 .taken)))
+    promised (args .sheet) (args .rows .now) (run-too-few-places (args .sheet) (args .rows .now) (accepted told .1) (rw (c .before .before .width .ensures) at (c .if1 .taken)))
 
 -- the steps by the gathered terms, from the sheet's start, are the sheet's run
-ran : (sheet : Sheet) (terms : Terms) (start : Balls) {before after : List ℤ} {outcome : Outcome} → listed terms ≡ gathered (listed (sheet .terms)) → ballsOf (sheet .head .n) start ≡ startsOf sheet → Kept (follow (listed terms) (sheet .head .step) (sheet .head .tail) (sheet .head .tol) (sheet .head .steps) 1 (ballsOf (sheet .head .n) start)) before after outcome → Kept (run sheet) before after outcome
+ran : (sheet : Sheet) (terms : Terms) (start : Balls) (before : List ℤ) {after : List ℤ} {outcome : Outcome} → listed terms ≡ gathered (listed (sheet .terms)) → ballsOf (sheet .head .n) start ≡ startsOf sheet → RunInto (follow (listed terms) (sheet .head .step) (sheet .head .tail) (sheet .head .tol) (sheet .head .steps) 1 (ballsOf (sheet .head .n) start)) before after outcome → RunInto (run sheet) before after outcome
 unfolding run termsOf
-ran sheet terms start is from kept = rw (is, from) at kept
+ran sheet terms start before is from into = rw (is, from) at into
 
 returns-3 : tie.Need-returns-3
 unfolding placesNeeded
@@ -56,8 +57,8 @@ returns-3 c =
     let room = c .before .before .before .before .before in
     let told = room .before .before .before .before in
     let args = told .before .before .before .args in
-    let finished = ran (args .sheet) (c .before .before .before .gather .result) (c .before .before .before .before .starts-of .result) (c .before .before .before .gather .ensures) (c .before .before .before .before .starts-of .ensures) (c .before .run-steps .ensures) in
-    promised (args .sheet) (kept-run (args .sheet) (args .rows .now) (accepted told .1) (rw (room .before .before .width .ensures) at (room .if1 .left)) finished)
+    let finished = ran (args .sheet) (c .before .before .before .gather .result) (c .before .before .before .before .starts-of .result) (args .rows .now) (c .before .before .before .gather .ensures) (c .before .before .before .before .starts-of .ensures) (c .before .run-steps .ensures) in
+    promised (args .sheet) (args .rows .now) (run-through (args .sheet) (args .rows .now) (accepted told .1) (rw (room .before .before .width .ensures) at (room .if1 .left)) finished)
 
 -- ---- what the calls ask, and what fits
 

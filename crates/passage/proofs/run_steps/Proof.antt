@@ -7,30 +7,30 @@ use lib.IntN.{ℤ}
 use lib.ListN.{length}
 use lib.Seq.{sets}
 use Rattle.model.specs.Sheet.{listed}
-use Rattle.model.specs.Passage.{moves, advance, follow, Kept}
+use Rattle.model.specs.Passage.{moves, advance, follow}
 use Rattle.model.specs.Rows.{ballsOf, width, rowPlaces}
 use Rattle.model.specs.declared.Ball.{Ball}
 use Rattle.model.specs.declared.Balls.{Balls}
 use Rattle.model.specs.declared.Term.{Term}
 use Rattle.model.specs.declared.Refusal.{Refusal}
 use Rattle.model.specs.declared.Outcome.the-variants.{Refused}
-use Rattle.laws.proofs.Passages.UnderWay.{Underway, underway-at-start, underway-length, room-for-row, moved, finished-by-refusal, finished}
+use Rattle.laws.proofs.Passages.UnderWay.{RunInto, Underway, underway-at-start, underway-length, room-for-row, moved, finished-by-refusal, finished}
 use Rattle.laws.proofs.Steps.StepTaken.{degree-at-most}
 use Rattle.coefficients.specs.Orders.{Usable}
 use Rattle.coefficients.proofs.Filling.{blank-usable}
 use Rattle.ratio.specs.Ratio.{SumsOf}
-use Rattle.taylor.specs.StepAnswers.{answered}
+use Rattle.taylor.specs.StepAnswers.{answered, rowOf}
 use Rattle.taylor.specs.declared.step.Numbers.{Numbers}
 use Rattle.taylor.specs.declared.step.Stepped.{Stepped}
 use Rattle.taylor.specs.declared.step.Advance.the-variants.{Stops}
 use Rattle.laws.proofs.Passages.RowPlaces.{length-balls, length-spans}
-use Rattle.passage.proofs.StepAnswered.{rowOf, step-moves, step-stops, radii-at-most}
+use Rattle.passage.proofs.StepAnswered.{step-moves, step-stops, radii-at-most}
 use borrow.Author.Needs.{needs}
 use Rattle.passage.proofs.run_steps.Statement.{statement}
 use Rattle.passage.proofs.run_steps.Tie as tie
 
 -- the refusal of a step ends the passage with its rows before it
-refused-at : {terms : List Term} {H : ℤ} {limit tol steps n done : ℕ} {start : List Ball} {buffer held : List ℤ} {r : Refusal} (balls : Balls) (stepped : Stepped) → Underway terms H limit tol steps n start buffer done (ballsOf n balls) held → steps * width n ≤ length buffer → done < steps → stepped ≡ answered balls (advance terms H limit tol (ballsOf n balls)) → stepped .advance ≡ Stops r → Kept (follow terms H limit tol steps 1 start) buffer held (Refused r (done + 1))
+refused-at : {terms : List Term} {H : ℤ} {limit tol steps n done : ℕ} {start : List Ball} {buffer held : List ℤ} {r : Refusal} (balls : Balls) (stepped : Stepped) → Underway terms H limit tol steps n start buffer done (ballsOf n balls) held → steps * width n ≤ length buffer → done < steps → stepped ≡ answered balls (advance terms H limit tol (ballsOf n balls)) → stepped .advance ≡ Stops r → RunInto (follow terms H limit tol steps 1 start) buffer held (Refused r (done + 1))
 refused-at balls stepped underway room left is e =
     finished-by-refusal _ underway room left (step-stops balls _ stepped _ is e)
 

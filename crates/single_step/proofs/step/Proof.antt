@@ -8,7 +8,7 @@ use Rattle.verdict.proofs.Outcomes.{refuses-as}
 use Rattle.laws.proofs.Bounds.SheetBounds.{Counts}
 use Rattle.single_step.proofs.AcceptedSheet.{passed, can-step, can-gather}
 use Rattle.laws.proofs.Passages.SingleSteps.{step-of-refused, step-of-passing}
-use Rattle.single_step.proofs.AnswerNumber.{with-its-number}
+use Rattle.single_step.proofs.StepPromised.{step-promised}
 use borrow.Author.Needs.{needs}
 use Rattle.single_step.proofs.step.Statement.{statement}
 use Rattle.single_step.proofs.step.Tie as tie
@@ -26,13 +26,13 @@ returns c =
     let asked = c .before .before .before .before in
     let args = asked .before .args in
     let refused = refuses-as (sheetVerdict (args .sheet)) (asked .verdict .ensures .0) (c .before .before .refused .given .1) in
-    with-its-number (args .start) _ (c .stopped .ensures ∙ ap (answered (args .start)) (sym (step-of-refused (args .sheet) _ refused)))
+    step-promised (args .sheet) (args .start) (c .stopped .ensures ∙ ap (answered (args .start)) (sym (step-of-refused (args .sheet) _ refused)))
 
 returns-2 : tie.Need-returns-2
 unfolding termsOf
 returns-2 c =
     let args = c .before .before .before .before .before .before .before .before .before .before .args in
-    with-its-number (args .start) _ (rw (step-of-passing (args .sheet) _ (accepted (c .before .before .before .before .before .before .before) .1), ← (c .before .before .before .before .before .gather .ensures)) (c .take-step .ensures .0))
+    step-promised (args .sheet) (args .start) (rw (step-of-passing (args .sheet) _ (accepted (c .before .before .before .before .before .before .before) .1), ← (c .before .before .before .before .before .gather .ensures)) (c .take-step .ensures .0))
 
 -- ---- what the calls ask, and what fits
 

@@ -2,12 +2,12 @@
 use mathlib.Core.Path.{refl}
 use Rattle.model.specs.Sheet.{padded}
 use Rattle.model.specs.Rows.{spansLaidOut, no-spans}
-use Rattle.taylor.specs.StepAnswers.{answered}
+use Rattle.taylor.specs.StepAnswers.{advanceOf, answered}
 use Rattle.taylor.proofs.step.stopped.Statement.{statement}
 use Rattle.taylor.proofs.step.stopped.Tie as tie
 
 returns : tie.Need-returns
-unfolding answered no-spans spansLaidOut padded
+unfolding answered advanceOf no-spans spansLaidOut padded
 returns c = refl
 
 pub stopped-spec : {M : Type 1} → statement M
