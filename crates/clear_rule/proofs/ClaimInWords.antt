@@ -223,5 +223,5 @@ pub found-refused : (r : Refusal) → (foundResult (Refused r) ≡ number r) × 
 unfolding foundResult foundRow
 found-refused r = (refl, refl)
 
-pub names-says : {found : Found} {number row : ℕ} → Names found number row → (foundResult found ≡ number) × (foundRow found ≡ row)
+pub names-says : {found meant : Found} → Names found meant → (foundResult found ≡ foundResult meant) × (foundRow found ≡ foundRow meant)
 names-says names = (names .result-is, names .row-is)

@@ -62,7 +62,7 @@ module _ (n count : ℕ) (buffer : List ℤ) (query : Query) where
 -- all that is promised of an answer: it is the definition's, says all that it says, and has its number
 abbrev pub Promised : ℕ → ℕ → List ℤ → Query → Found → Type 0
 Promised n count buffer query found =
-    (found ≡ firstClear n count buffer query) × (Said n count buffer query found × Names found (foundResult (firstClear n count buffer query)) (foundRow (firstClear n count buffer query)))
+    (found ≡ firstClear n count buffer query) × (Said n count buffer query found × Names found (firstClear n count buffer query))
 
 module _ (n count : ℕ) (buffer : List ℤ) (query : Query) where
   promised : {found : Found} → found ≡ firstClear n count buffer query → Promised n count buffer query found

@@ -134,10 +134,10 @@ foundRow (At row) = row
 foundRow Nowhere = 0
 foundRow (Refused r) = 0
 
--- an answer has this number, and names this row
-pub record Names (found : Found) (number row : ℕ) : Type 0 where
-  pub result-is : foundResult found ≡ number
-  pub row-is : foundRow found ≡ row
+-- an answer has the number, and names the row, of the one that is meant
+pub record Names (found meant : Found) : Type 0 where
+  pub result-is : foundResult found ≡ foundResult meant
+  pub row-is : foundRow found ≡ foundRow meant
 
 -- as one number, for C: the row's, 0 for none, or a refusal's with a minus
 unfoldable pub foundNumber : Found → ℤ

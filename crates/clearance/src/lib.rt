@@ -36,7 +36,7 @@ const COUNT: Limits = Limits {
 pub fn first_clear(n: usize, count: usize, rows: &[i64], query: Query) -> Found
     ensures found { λ r. ⌜ r ≡ clearance.firstClear n count (now (rows .entry)) query ⌝ }
     ensures said { λ r. ⌜ Said n count (now (rows .entry)) query r ⌝ }
-    ensures numbered { λ r. ⌜ clearance.Names r (clearance.foundResult (clearance.firstClear n count (now (rows .entry)) query)) (clearance.foundRow (clearance.firstClear n count (now (rows .entry)) query)) ⌝ }
+    ensures numbered { λ r. ⌜ clearance.Names r (clearance.firstClear n count (now (rows .entry)) query) ⌝ }
 {
     if !natural_within(limits::N, n as u64) {
         return Found::Refused(Refusal::OutOfRange);
@@ -105,7 +105,7 @@ pub fn run_and_find(sheet: Sheet, rows: &mut [i64], query: Query) -> RunFound
     ensures numbered { λ r. ⌜ Gives (r .outcome) (result (passage.passage sheet (length (now (rows .entry))) .outcome)) (refusedStep (passage.passage sheet (length (now (rows .entry))) .outcome)) ⌝ }
     ensures found { λ r. ⌜ r .found ≡ clearance.firstClear (sheet .head .n) (passage.rowsWritten sheet (r .outcome)) (now (rows .exit)) query ⌝ }
     ensures said { λ r. ⌜ SaidOf sheet query (now (rows .exit)) (r .outcome) (r .found) ⌝ }
-    ensures found_numbered { λ r. ⌜ clearance.Names (r .found) (clearance.foundResult (clearance.firstClear (sheet .head .n) (passage.rowsWritten sheet (r .outcome)) (now (rows .exit)) query)) (clearance.foundRow (clearance.firstClear (sheet .head .n) (passage.rowsWritten sheet (r .outcome)) (now (rows .exit)) query)) ⌝ }
+    ensures found_numbered { λ r. ⌜ clearance.Names (r .found) (clearance.firstClear (sheet .head .n) (passage.rowsWritten sheet (r .outcome)) (now (rows .exit)) query) ⌝ }
 {
     let outcome = run(sheet, rows);
     let n = sheet.head.n;

@@ -13,7 +13,7 @@ use Rattle.model.specs.declared.Ball.{Ball}
 use Rattle.model.specs.declared.Balls.{Balls}
 use Rattle.model.specs.declared.Sheet.{Sheet}
 use Rattle.enclosure.specs.Trust.{Trusted, Spanned}
-use Rattle.taylor.specs.StepAnswers.{advanceOf, rowLaidOut, answered, rowsGiven, advanceNumber, advanceDegree, Numbered}
+use Rattle.taylor.specs.StepAnswers.{advanceOf, rowLaidOut, answered, rowsGiven, Numbered}
 use Rattle.taylor.specs.declared.step.Stepped.{Stepped}
 use Rattle.laws.proofs.Passages.LaidOut.{balls-laid-out, spans-laid-out}
 use Rattle.laws.proofs.Passages.RowPlaces.{Quantities, length-balls}
@@ -49,7 +49,7 @@ module _ (sheet : Sheet) (start : Balls) where
   abbrev meant : Advance
   meant = stepOf sheet balls
 
-  pub step-promised : {stepped : Stepped} → stepped ≡ answered start meant → (stepped ≡ answered start meant) × (Numbered (stepped .advance) (advanceNumber (advanceOf meant)) (advanceDegree (advanceOf meant)) × (Trusted (termsOf sheet) (sheet .head .step) (sheet .head .tol) balls (rowsGiven n stepped) × Spanned (termsOf sheet) (sheet .head .step) balls (rowsGiven n stepped)))
+  pub step-promised : {stepped : Stepped} → stepped ≡ answered start meant → (stepped ≡ answered start meant) × (Numbered (stepped .advance) (advanceOf meant) × (Trusted (termsOf sheet) (sheet .head .step) (sheet .head .tol) balls (rowsGiven n stepped) × Spanned (termsOf sheet) (sheet .head .step) balls (rowsGiven n stepped)))
   step-promised {stepped} e =
       (e, (numbered (ap (λ (s : Stepped). s .advance) e), (rw (e, given) (step-trusted sheet balls), rw (e, given) (step-spanned sheet balls))))
     where
@@ -60,5 +60,5 @@ module _ (sheet : Sheet) (start : Balls) where
       advance-is (moves row) = unfold answered in refl
       advance-is (stops r) = unfold answered in refl
 
-      numbered : stepped .advance ≡ answered start meant .advance → Numbered (stepped .advance) (advanceNumber (advanceOf meant)) (advanceDegree (advanceOf meant))
+      numbered : stepped .advance ≡ answered start meant .advance → Numbered (stepped .advance) (advanceOf meant)
       numbered is = rw (is, advance-is meant) (record { number-is = refl; degree-is = refl })

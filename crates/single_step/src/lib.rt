@@ -4,7 +4,7 @@ ghost use Rattle.model.specs.Sheet.{termsOf};
 ghost use Rattle.model.specs.Rows.{ballsOf};
 ghost use Rattle.model.specs.Passage.{stepOf};
 ghost use Rattle.enclosure.specs.Trust.{Trusted, Spanned};
-ghost use Rattle.taylor.specs.StepAnswers.{advanceOf, answered, rowsGiven, advanceNumber, advanceDegree, Numbered};
+ghost use Rattle.taylor.specs.StepAnswers.{advanceOf, answered, rowsGiven, Numbered};
 use model::Balls;
 use model::Outcome;
 use model::Sheet;
@@ -20,7 +20,7 @@ use verdict::verdict;
 // refused step leaves the values and radii that it started from.
 pub fn step(sheet: Sheet, start: Balls) -> Stepped
     ensures whole { λ r. ⌜ r ≡ answered start (stepOf sheet (ballsOf (sheet .head .n) start)) ⌝ }
-    ensures numbered { λ r. ⌜ Numbered (r .advance) (advanceNumber (advanceOf (stepOf sheet (ballsOf (sheet .head .n) start)))) (advanceDegree (advanceOf (stepOf sheet (ballsOf (sheet .head .n) start)))) ⌝ }
+    ensures numbered { λ r. ⌜ Numbered (r .advance) (advanceOf (stepOf sheet (ballsOf (sheet .head .n) start))) ⌝ }
     ensures trusted { λ r. ⌜ Trusted (termsOf sheet) (sheet .head .step) (sheet .head .tol) (ballsOf (sheet .head .n) start) (rowsGiven (sheet .head .n) r) ⌝ }
     ensures spanned { λ r. ⌜ Spanned (termsOf sheet) (sheet .head .step) (ballsOf (sheet .head .n) start) (rowsGiven (sheet .head .n) r) ⌝ }
 {

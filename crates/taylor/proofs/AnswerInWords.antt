@@ -19,7 +19,7 @@ pub stops-numbered : (r : Refusal) → (advanceNumber (Stops r) ≡ number r) ×
 unfolding advanceNumber advanceDegree
 stops-numbered r = (refl, refl)
 
-pub numbered-says : {answer : Advance} {number degree : ℕ} → Numbered answer number degree → (advanceNumber answer ≡ number) × (advanceDegree answer ≡ degree)
+pub numbered-says : {answer meant : Advance} → Numbered answer meant → (advanceNumber answer ≡ advanceNumber meant) × (advanceDegree answer ≡ advanceDegree meant)
 numbered-says numbered = (numbered .number-is, numbered .degree-is)
 
 -- the one row, with the answer's degree and numbers; none where it is a refusal

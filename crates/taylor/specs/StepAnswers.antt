@@ -72,7 +72,7 @@ unfoldable pub advanceDegree : Advance → ℕ
 advanceDegree (Moves degree) = degree
 advanceDegree (Stops r) = 0
 
--- an answer has this number and this degree
-pub record Numbered (answer : Advance) (number degree : ℕ) : Type 0 where
-  pub number-is : advanceNumber answer ≡ number
-  pub degree-is : advanceDegree answer ≡ degree
+-- an answer has the number and the degree of the one that is meant
+pub record Numbered (answer meant : Advance) : Type 0 where
+  pub number-is : advanceNumber answer ≡ advanceNumber meant
+  pub degree-is : advanceDegree answer ≡ advanceDegree meant

@@ -8,7 +8,7 @@ use lib.ListN.{length}
 use Rattle.model.specs.Passage.{passage, rowsWritten}
 use Rattle.model.specs.declared.Outcome.{Outcome}
 use Rattle.model.specs.declared.Sheet.{Sheet}
-use Rattle.clear_rule.specs.Clearance.{firstClear, foundResult, foundRow, Names}
+use Rattle.clear_rule.specs.Clearance.{firstClear, Names}
 use Rattle.clear_rule.specs.Claim.{SaidOf}
 use Rattle.clear_rule.specs.declared.Query.{Query}
 use Rattle.clear_rule.specs.declared.Found.{Found}
@@ -19,7 +19,7 @@ use Rattle.clearance.proofs.run_and_find.Statement.{statement}
 use Rattle.clearance.proofs.run_and_find.Tie as tie
 
 -- the rows that were written are those that are counted
-found-in-own : (sheet : Sheet) (query : Query) (before : List ℤ) {after : List ℤ} {outcome : Outcome} {count : ℕ} {found : Found} → RunInto (passage sheet (length before)) before after outcome → count ≡ rowsWritten sheet outcome → Promised (sheet .head .n) count after query found → (found ≡ firstClear (sheet .head .n) (rowsWritten sheet outcome) after query) × (SaidOf sheet query after outcome found × Names found (foundResult (firstClear (sheet .head .n) (rowsWritten sheet outcome) after query)) (foundRow (firstClear (sheet .head .n) (rowsWritten sheet outcome) after query)))
+found-in-own : (sheet : Sheet) (query : Query) (before : List ℤ) {after : List ℤ} {outcome : Outcome} {count : ℕ} {found : Found} → RunInto (passage sheet (length before)) before after outcome → count ≡ rowsWritten sheet outcome → Promised (sheet .head .n) count after query found → (found ≡ firstClear (sheet .head .n) (rowsWritten sheet outcome) after query) × (SaidOf sheet query after outcome found × Names found (firstClear (sheet .head .n) (rowsWritten sheet outcome) after query))
 found-in-own sheet query before into counted answer =
     let own = rw counted at answer in
     (own .0, (own-said sheet before into query (own .0) (own .1 .0), own .1 .1))
