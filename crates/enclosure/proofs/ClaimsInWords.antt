@@ -16,7 +16,7 @@ use Rattle.model.specs.declared.Span.{Span}
 use Rattle.model.specs.declared.Sheet.{Sheet}
 use Rattle.ranges.proofs.Ranges.{length-tabulate, getD-tabulate}
 use Rattle.enclosure.specs.Exact.{State, exactSum}
-use Rattle.enclosure.specs.Trust.{LiesWithin, LiesBetween, Tolerated, stateAfter, NoLower, Trusted, TrustedOf, startOf, Spanned, SpannedOf, Leaves}
+use Rattle.enclosure.specs.Trust.{LiesWithin, LiesBetween, stateAfter, Trusted, TrustedOf, startOf, Spanned, SpannedOf, Leaves}
 
 -- ---- the numbers of row j, the rows counted from 0, in a buffer of rows of n quantities
 
