@@ -3,7 +3,7 @@ ghost use mathlib.Core.Path.{_≡_};
 ghost use Prim.Native.Nat.{_≤_};
 ghost use lib.ListN.{length};
 ghost use Rattle.model.specs.Sheet.{result, refusedStep, Gives, most-quantities, listed, startValue, startsOf};
-ghost use Rattle.model.specs.Rows.{ballsOf, written};
+ghost use Rattle.model.specs.Rows.{ballsOf, laidOut, written};
 ghost use Rattle.model.specs.Passage as passage;
 ghost use Rattle.enclosure.specs.Trust.{Leaves};
 ghost use Rattle.passage.specs.CanRun.{CanRun};
@@ -34,10 +34,10 @@ fn start_value(start: Start) -> i64
     }
 }
 
-// The values and radii that the first step starts from.
+// The values and radii that the first step starts from, with 0 past n.
 fn starts_of(sheet: Sheet) -> Balls
     requires { ⌜ sheet .head .n ≤ most-quantities ⌝ }
-    ensures { λ r. ⌜ ballsOf (sheet .head .n) r ≡ startsOf sheet ⌝ }
+    ensures { λ r. ⌜ r ≡ laidOut (startsOf sheet) ⌝ }
 {
     let mut values = [0i64; MOST_QUANTITIES];
     let mut radii = [0u64; MOST_QUANTITIES];

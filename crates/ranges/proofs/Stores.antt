@@ -1,13 +1,12 @@
--- Stores one after the other: of an append, of one number more, and of one entry more into an array.
-use Prim.Native.Nat.{ℕ, suc, _+_, _<_}
+-- Stores one after the other: of an append, and of one number more.
+use Prim.Native.Nat.{ℕ, suc, _+_}
 use mathlib.Core.Path.{_≡_, sym, ap, _∙_}
 use mathlib.Core.List.{List, [], _∷_, _++_}
 use native.Mathlib.Nat.{add-zero, zero-add}
 use native.Mathlib.Numerals.{add-one}
 use native.Mathlib.Omega.{arith}
-use borrow.Author.Count.{below-none, below-more}
-use lib.ListN.{length, getD, set, length-set}
-use lib.Seq.{sets, getD-set-same, getD-set-other}
+use lib.ListN.{length, set}
+use lib.Seq.{sets}
 use Rattle.ranges.specs.Range.{tabulate}
 use Rattle.ranges.proofs.Ranges.{length-tabulate}
 
@@ -28,18 +27,3 @@ module _ {A : Type 0} where
   -- from the front on
   pub stored-in-front : {l : List A} (entry : List A) (n : ℕ) (f : ℕ → A) → l ≡ sets entry 0 (tabulate n f) → set l n (f n) ≡ sets entry 0 (tabulate (n + 1) f)
   stored-in-front {l} entry n f e = ap (λ (k : ℕ). set l k (f n)) (sym (zero-add n)) ∙ stored-one-more entry 0 n f e
-
-  -- a list of so many places, of which the first i are f 0, .., f (i - 1); `d` is what is read past its end
-  pub record Begins (f : ℕ → A) (d : A) (size i : ℕ) (l : List A) : Type 0 where
-    pub places : length l ≡ size
-    pub entry : (k : ℕ) → k < i → getD l k d ≡ f k
-
-  pub begins-with-none : {f : ℕ → A} {d : A} {size : ℕ} {l : List A} → length l ≡ size → Begins f d size 0 l
-  begins-with-none e = record { places = e; entry = below-none _ }
-
-  pub begins-with-one-more : {f : ℕ → A} {d : A} {size i : ℕ} {l : List A} → Begins f d size i l → i < size → Begins f d size (i + 1) (set l i (f i))
-  begins-with-one-more {f} {d} {i = i} {l = l} b h =
-      record {
-        places = length-set l i (f i) ∙ b .places;
-        entry = below-more _ i (λ k before. getD-set-other l i k (f i) d (λ e. omega arith) ∙ b .entry k before) (getD-set-same l i (f i) d (omega (arith, b .places)));
-      }

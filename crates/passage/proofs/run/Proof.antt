@@ -1,6 +1,6 @@
 -- `passage::run` meets its contract.
 use mathlib.Core.List.{List}
-use mathlib.Core.Path.{_≡_}
+use mathlib.Core.Path.{_≡_, ap, _∙_}
 use native.Mathlib.Omega.{arith}
 use lib.IntN.{ℤ}
 use lib.ListN.{length}
@@ -12,7 +12,9 @@ use Rattle.model.specs.declared.Terms.{Terms}
 use Rattle.model.specs.Sheet.{most, passes, refuses, sheetVerdict, verdictOutcome, listed, termsOf, startsOf}
 use Rattle.model.specs.LikeTerms.{gathered}
 use Rattle.model.specs.Passage.{placesNeeded, follow, run, passage}
-use Rattle.model.specs.Rows.{width, ballsOf}
+use Rattle.model.specs.Rows.{width, ballsOf, laidOut}
+use Rattle.ranges.proofs.Ranges.{length-tabulate}
+use Rattle.laws.proofs.Passages.LaidOut.{balls-laid-out}
 use Rattle.laws.proofs.Passages.RowPlaces.{rows-fit}
 use Rattle.verdict.proofs.Outcomes.{refuses-as}
 use Rattle.laws.proofs.Bounds.SheetBounds.{Counts}
@@ -47,9 +49,11 @@ returns-2 c =
     promised (args .sheet) (args .rows .now) (run-too-few-places (args .sheet) (args .rows .now) (accepted told .1) (rw (c .before .before .width .ensures) at (c .if1 .taken)))
 
 -- the steps by the gathered terms, from the sheet's start, are the sheet's run
-ran : (sheet : Sheet) (terms : Terms) (start : Balls) (before : List ℤ) {after : List ℤ} {outcome : Outcome} → listed terms ≡ gathered (listed (sheet .terms)) → ballsOf (sheet .head .n) start ≡ startsOf sheet → RunInto (follow (listed terms) (sheet .head .step) (sheet .head .tail) (sheet .head .tol) (sheet .head .steps) 1 (ballsOf (sheet .head .n) start)) before after outcome → RunInto (run sheet) before after outcome
-unfolding run termsOf
-ran sheet terms start before is from into = rw (is, from) at into
+ran : (sheet : Sheet) (terms : Terms) (start : Balls) (before : List ℤ) {after : List ℤ} {outcome : Outcome} → listed terms ≡ gathered (listed (sheet .terms)) → start ≡ laidOut (startsOf sheet) → RunInto (follow (listed terms) (sheet .head .step) (sheet .head .tail) (sheet .head .tol) (sheet .head .steps) 1 (ballsOf (sheet .head .n) start)) before after outcome → RunInto (run sheet) before after outcome
+unfolding run termsOf startsOf
+ran sheet terms start before is from into =
+    let starts : ballsOf (sheet .head .n) start ≡ startsOf sheet = ap (ballsOf (sheet .head .n)) from ∙ balls-laid-out (sheet .head .n) (startsOf sheet) (length-tabulate (sheet .head .n) _) in
+    rw (is, starts) at into
 
 returns-3 : tie.Need-returns-3
 unfolding placesNeeded

@@ -1,39 +1,45 @@
--- `passage::starts_of` meets its contract. The loop's invariant: the arrays begin with the starts passed.
-use Prim.Native.Nat.{_-_, _≤_}
-use mathlib.Core.Path.{refl}
+-- `passage::starts_of` meets its contract. The loop's invariant: the starts passed stand in arrays of zeros.
+use Prim.Native.Nat.{ℕ, _-_, _≤_}
+use mathlib.Core.Path.{_≡_, refl, ap, _∙_}
 use native.Mathlib.Omega.{arith}
 use lib.IntN.{pos}
-use lib.ListN.{getD}
+use lib.ListN.{getD, replicate}
+use lib.Seq.{sets}
 use mir.Facts.{toZ-ofZ}
 use Rattle.model.specs.Sheet.{most-quantities, no-quantity, startBall, startsOf}
-use Rattle.model.specs.Rows.{ballIn, ballsIn}
-use Rattle.ranges.proofs.Ranges.{tabulate-equal}
-use Rattle.ranges.proofs.Stores.{Begins, begins-with-none, begins-with-one-more}
+use Rattle.model.specs.declared.Ball.{Ball}
+use Rattle.ranges.specs.Range.{tabulate}
+use Rattle.ranges.proofs.Stores.{stored-in-front}
+use Rattle.laws.proofs.Passages.LaidOut.{stored-laid-out}
 use borrow.Author.Needs.{needs}
 use Rattle.passage.proofs.starts_of.Statement.{statement}
 use Rattle.passage.proofs.starts_of.Tie as tie
 
 abbrev Inv-loop : tie.InvT-loop
 Inv-loop sheet values₀ radii₀ n i₀ values radii i =
-    Begins (λ k. startBall (getD (sheet .quantities) k no-quantity) .value) (pos 0) most-quantities i values × Begins (λ k. startBall (getD (sheet .quantities) k no-quantity) .radius) 0 most-quantities i radii × (i ≤ n)
+    (values ≡ sets (replicate most-quantities (pos 0)) 0 (tabulate i (λ k. startBall (getD (sheet .quantities) k no-quantity) .value))) × (radii ≡ sets (replicate most-quantities 0) 0 (tabulate i (λ k. startBall (getD (sheet .quantities) k no-quantity) .radius))) × (i ≤ n)
 
 abbrev μ-loop : tie.MeasureT-loop
 μ-loop sheet values₀ radii₀ n i₀ values radii i = n - i
 
 loop-holds : tie.Need-loop-holds Inv-loop μ-loop
-loop-holds c = (begins-with-none refl, begins-with-none refl, omega arith)
+unfolding tabulate
+loop-holds c = (refl, refl, omega arith)
 
 loop-again : tie.Need-loop-again Inv-loop μ-loop
 unfolding startBall no-quantity
 loop-again c =
     let turn = c .before .before .before .loop in
-    (rw (toZ-ofZ (record { sfits = c .start-value .ok }), c .start-value .ensures) (begins-with-one-more (turn .inv .0) (omega arith)), begins-with-one-more (turn .inv .1) (omega arith), omega arith)
+    (rw (toZ-ofZ (record { sfits = c .start-value .ok }), c .start-value .ensures) (stored-in-front _ (turn .i) _ (turn .inv .0)), stored-in-front _ (turn .i) _ (turn .inv .1), omega arith)
 
 returns : tie.Need-returns Inv-loop μ-loop
-unfolding ballsIn ballIn startsOf startBall
+unfolding startsOf
 returns c =
-    let begun = c .before .loop .inv in
-    tabulate-equal (c .before .before .args .t1 .head .n) _ _ (λ i h. λ t. record { value = begun .0 .entry i (omega arith) t; radius = begun .1 .entry i (omega arith) t })
+    let sheet = c .before .before .args .t1 in
+    let inv = c .before .loop .inv in
+    let all : c .before .loop .i ≡ sheet .head .n = omega arith in
+    let start : ℕ → Ball = λ k. startBall (getD (sheet .quantities) k no-quantity) in
+    stored-laid-out (sheet .head .n) start (c .before .before .pre) (inv .0 ∙ ap (λ (k : ℕ). sets (replicate most-quantities (pos 0)) 0 (tabulate k (λ i. start i .value))) all) (inv .1 ∙ ap (λ (k : ℕ). sets (replicate most-quantities 0) 0 (tabulate k (λ i. start i .radius))) all)
 
 -- ---- what fits
 
