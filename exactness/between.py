@@ -73,10 +73,10 @@ def states(rng, values, radii):
     ]
 
 
-def steps(reference, passage):
+def steps(passage, rows):
     """Each row with the values and radii that its step starts from."""
     values, radii = ([pair[part] for pair in passage["starts"]] for part in (0, 1))
-    for row in printed_rows(reference, passage):
+    for row in rows:
         yield values, radii, row
         values, radii = row.values, row.radii
 
@@ -145,7 +145,7 @@ def main():
     for _, (kind, direction) in zip(range(count), kinds):
         passage = kind(rng, direction)
         terms, step = passage["terms"], passage["step"]
-        for values, radii, row in steps(reference, passage):
+        for values, radii, row in steps(passage, printed_rows(reference, passage)):
             if rounded_step(values, radii, gathered(terms), step, passage["tail"]) != tuple(row):
                 return report("another row by the rule", passage, values, radii, row)
             uses.rows += 1

@@ -1,7 +1,8 @@
 """Certain rows run on random small passages, forecasts and hindcasts in turn, some with terms that repeat, some
 with a quantity that turns within its first step: where a row is certain to clear a need, by its lows and highs,
 the exact clearance is at least the need at the start of its step, at its end and at fractions between. The exact
-states before a step are those of measure.py. The needs are what a row is just certain of, or what it just clears
+states before a step are those of measure.py, and besides any within the radii that the step starts from, whether or
+not the passage leads there. The needs are what a row is just certain of, or what it just clears
 by value and radius, or a little less or more. Prints how close the exact clearances came, and how many fall short
 within a step whose row clears the need by value and radius. Exits 1 at the first that falls short of what its row
 says, or where a row is certain that does not clear the need by value and radius.
@@ -16,7 +17,7 @@ from fractions import Fraction
 from itertools import cycle, product
 from statistics import median
 
-from between import AT_END, AT_START, KINDS, WITHIN, place_of, random_fraction
+from between import AT_END, AT_START, CENTRE, CORNER, INSIDE, KINDS, WITHIN, place_of, random_fraction, states, steps
 from exact_sum import SCALE, exact_sum
 from measure import (
     BACK,
@@ -101,6 +102,13 @@ def exact_moments(rng, passage, before, row):
     return [moment(Fraction(0)), moment(Fraction(1)), *(moment(random_fraction(rng)) for _ in range(FRACTIONS))]
 
 
+def moments_from_anywhere(rng, passage, values, radii, row):
+    """(where, moment): exact states at fractions of the step from states within the radii that it starts from."""
+    for where, before in states(rng, values, radii):
+        fraction, degree = random_fraction(rng), random_degree(rng, row)
+        yield where, Moment(fraction, degree, exact_sum(before, passage["terms"], passage["step"], degree, fraction))
+
+
 class Clearances:
     """How far the exact clearances lie from the needs."""
 
@@ -110,6 +118,7 @@ class Clearances:
         self.slacks = []  # As parts of the sum of |weight| * reach.
         self.uncertain = self.short = 0
         self.at_end_alone = self.short_before = self.short_between = 0
+        self.anywhere = Counter()  # Of exact clearances from states within the radii that the step starts from.
 
     def add(self, direction, query, row, moments):
         """What is wrong with what the row says of the need, or None."""
@@ -126,6 +135,17 @@ class Clearances:
             self.add_certain(direction, query, row, margin, moments, slacks)
         else:
             self.add_uncertain(margin, at_end, {place_of(moment.fraction) for moment in short})
+        return None
+
+    def add_from_anywhere(self, query, row, moments):
+        """What is wrong with what the row says of the need, or None."""
+        if least_clearance(query, row) < query.need * SCALE:
+            return None
+        for where, moment in moments:
+            by = slack(query, moment.state)
+            if by < 0:
+                return f"below the need at {moment.fraction} of the step, at degree {moment.degree}, from a state within its radii"
+            self.anywhere.update([where, "at the need"] if by == 0 else [where])
         return None
 
     def add_certain(self, direction, query, row, margin, moments, slacks):
@@ -161,6 +181,12 @@ class Clearances:
             f"{len(self.slacks) - len(above)} lie at the need itself; of the sum of |weight| times reach, the closest other "
             f"lies {min(above):.1e} above the need, and the middle one of all {median(self.slacks):.2f}"
         )
+        anywhere = self.anywhere
+        print(
+            f"{anywhere[CENTRE] + anywhere[INSIDE] + anywhere[CORNER]} exact clearances more from states within the radii that the "
+            f"step starts from, {anywhere[CORNER]} {CORNER} and {anywhere[INSIDE]} {INSIDE} of them: each is at least the need, "
+            f"{anywhere['at the need']} by exactly 0"
+        )
         print(f"{self.uncertain} needs that a row misses by a unit or less: {self.short} have an exact clearance below them")
         print(
             f"{self.at_end_alone} needs that a row clears by value and radius without being certain: {self.short_before} "
@@ -175,16 +201,17 @@ def report(what, title, passage, row, query):
 
 def main():
     reference, seed, count = sys.argv[1], int(sys.argv[2]), int(sys.argv[3])
-    rng = random.Random(seed)
+    rng, other = random.Random(seed), random.Random(f"{seed} from anywhere")
     clearances = Clearances()
     for _, (kind, direction) in zip(range(count), cycle(product(KINDS, [FORWARD, BACK]))):
         for title, passage, start in trials(rng, kind(rng, direction)):
             rows = printed_rows(reference, passage)
-            for before, _, row in exact_steps(rng, rows, passage, start):
+            for (before, _, row), (values, radii, _) in zip(exact_steps(rng, rows, passage, start), steps(passage, rows)):
                 moments = exact_moments(rng, passage, before, row)
+                others = list(moments_from_anywhere(other, passage, values, radii, row))
                 for _ in range(QUERIES):
                     query = random_query(rng, rng.choice(moments).state, row)
-                    wrong = query and clearances.add(direction_of(passage), query, row, moments)
+                    wrong = query and (clearances.add(direction_of(passage), query, row, moments) or clearances.add_from_anywhere(query, row, others))
                     if wrong:
                         return report(wrong, title, passage, row, query)
     clearances.print(count, seed)
