@@ -17,7 +17,7 @@ unfoldable pub readable : Input → Bool
 readable (Bytes count) = true
 readable Unreadable = false
 
--- so many bytes more, of which none is the end of the input
+-- so many bytes more; where there are none, the input has ended
 unfoldable pub bytesMore : ℕ → Turn
 bytesMore zero = End
 bytesMore (suc more) = More (suc more)

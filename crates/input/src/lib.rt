@@ -34,8 +34,8 @@ fn turn_of(got: isize, room: &[u8]) -> Turn
     }
 }
 
-// Reads standard input into `bytes` until it ends or `bytes` is full. Which bytes these are, and which of its turns a read
-// took, no contract can say: C's read promises no more than how many bytes it may have moved.
+// Reads standard input into `bytes` until it ends or `bytes` is full. Which bytes these are, and what each read came to, no
+// contract can say: of C's read no more is assumed than how many bytes it may answer.
 pub fn read_input(bytes: &mut [u8]) -> Input
     ensures kept { λ r. ⌜ length (now (bytes .exit)) ≡ length (now (bytes .entry)) ⌝ }
     ensures bounded { λ r. ⌜ counted r ≤ length (now (bytes .exit)) ⌝ }

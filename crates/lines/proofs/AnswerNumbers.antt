@@ -1,7 +1,6 @@
 -- Document 01's number and value of an answer: worked cases, and that an answer which is read as the definitions' has theirs.
 use Prim.Native.Nat.{ℕ}
-use Prim.Native.String.{String}
-use mathlib.Core.Bool.{Bool, true, false}
+use mathlib.Core.Bool.{Bool, true}
 use mathlib.Core.List.{List, [], _∷_, map}
 use mathlib.Core.Path.{_≡_, refl, ap, _∙_}
 use lib.IntN.{ℤ, pos, negℤ}
@@ -34,7 +33,7 @@ pub texts-give :
     (map (λ text. gives (pos 0) (lineAsked (bytes "coef=") true (bytes text))) ("coef=-5\n" ∷ "coef=268435457\n" ∷ "coef=-05\n" ∷ "coef=5" ∷ "cost=5\n" ∷ []) ≡ (0, negℤ (pos 5)) ∷ (0, pos 268435457) ∷ (2, pos 0) ∷ (2, pos 0) ∷ (2, pos 0) ∷ [])
     × (map (λ text. gives (pos 0) (wholeAfter (bytes "coef=") true coef-limits (bytes text))) ("coef=-5\n" ∷ "coef=268435457\n" ∷ "coef=-05\n" ∷ []) ≡ (0, negℤ (pos 5)) ∷ (3, pos 0) ∷ (2, pos 0) ∷ [])
     × (map (λ text. gives 0 (naturalAfter (bytes "radius=") radius-limits (bytes text))) ("radius=5\n" ∷ "radius=536870913\n" ∷ "radius=-5\n" ∷ []) ≡ (0, 5) ∷ (3, 0) ∷ (2, 0) ∷ [])
-unfolding every-definition gives lineAsked lineAfter spelling wholeAfter naturalAfter
+unfolding every-definition lineAsked lineAfter spelling wholeAfter naturalAfter
 texts-give = (refl, refl, refl)
 
 -- ---- an answer that is read as what the definitions parse has its number and its value
