@@ -1,2 +1,3 @@
+mod AnswerNumbers
 pub mod Spellings
 pub mod FieldsRead

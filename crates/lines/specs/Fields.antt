@@ -1,12 +1,15 @@
 -- What the answers of a field's reading say of its text: each is read as what the definitions parse from the bytes there.
 use Prim.Native.Nat.{ℕ}
-use mathlib.Core.Bool.{Bool, false}
+use mathlib.Core.Bool.{Bool, true, false}
 use mathlib.Core.List.{List}
-use lib.IntN.{ℤ, natAbs}
+use lib.IntN.{ℤ, pos, natAbs}
 use Rattle.model.specs.declared.Limits.{Limits}
-use Rattle.model.specs.Sheet.{within}
+use Rattle.model.specs.declared.Refusal.the-variants.{Misspelt}
+use Rattle.model.specs.Sheet.{number, within}
 use Rattle.model.specs.Reading.{Parsed, parsed, fault, Parser, return, _>>=_, ranged}
 use Rattle.lines.specs.Places.{rest, lineAfter}
+use Rattle.lines.specs.declared.cursor.Spelled.{Spelled}
+use Rattle.lines.specs.declared.cursor.Spelled.the-variants.{Number, Wrong}
 use Rattle.lines.specs.declared.fields.WholeLine.{WholeLine}
 use Rattle.lines.specs.declared.fields.WholeLine.the-variants as whole
 use Rattle.lines.specs.declared.fields.NaturalLine.{NaturalLine}
@@ -31,3 +34,24 @@ unfoldable pub naturalAfter : List ℕ → Limits → Parser ℕ
 naturalAfter key limits = do
   z ← wholeAfter key false limits
   return (natAbs z)
+
+-- question 2 of a line by itself, whose number may be any
+unfoldable pub lineAsked : List ℕ → Bool → Parser ℤ
+lineAsked key minus text = ranged (λ z. true) (lineAfter key minus text)
+
+-- ---- document 01's number of an answer, and its value: 0 and the number that was read, or the refusal's; a refusal has no value, and 0 is put for it
+
+-- of a line by itself: a misspelt one is refusal 2
+unfoldable pub lineGives : Spelled → ℕ × ℤ
+lineGives (Number z next) = (0, z)
+lineGives Wrong = (number Misspelt, pos 0)
+
+-- of a field whose number may be negative
+unfoldable pub wholeGives : WholeLine → ℕ × ℤ
+wholeGives (whole.Holds field) = (0, field .value)
+wholeGives (whole.Fault r) = (number r, pos 0)
+
+-- of a natural number's field
+unfoldable pub naturalGives : NaturalLine → ℕ × ℕ
+naturalGives (natural.Holds field) = (0, field .value)
+naturalGives (natural.Fault r) = (number r, 0)

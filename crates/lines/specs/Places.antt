@@ -1,4 +1,5 @@
 -- What the answers of a cursor say of its text: each answer is read as that of the definitions on the bytes from there.
+-- Document 01 numbers lines alone (`lineGives` of `Fields`): a byte, a digit or a text that was found is a place in the text.
 use Prim.Native.Nat.{ℕ, _-_}
 use Prim.Native.Char.{code}
 use mathlib.Core.Bool.{Bool, true, false}

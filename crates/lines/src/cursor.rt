@@ -2,9 +2,11 @@
 // back with the moved cursor, so that each line is read from the place where the last one ended.
 ghost use mathlib.Core.Path.{_≡_};
 ghost use Prim.Native.Nat.{_-_, _<_};
+ghost use lib.IntN.{pos};
 ghost use Rattle.model.specs.Sheet.{«most-digits»};
 ghost use Rattle.model.specs.Reading as model;
 ghost use Rattle.lines.specs.Places.{rest, byteRead, empty, digitRead, frontDigit, spelledAt, foundAfter, spelling, lineAfter};
+ghost use Rattle.lines.specs.Fields.{lineAsked, lineGives};
 use model::MOST_DIGITS;
 use tens::power_of_ten;
 
@@ -186,7 +188,8 @@ impl Cursor {
 
     // One line: the key with its equals sign, a number, a line feed.
     pub fn line(self, text: &[u8], key: &[u8], minus: bool) -> Spelled
-        ensures { λ r. ⌜ spelledAt (now (text .entry)) r ≡ lineAfter (now (key .entry)) minus (rest (now (text .entry)) self) ⌝ }
+        ensures read { λ r. ⌜ spelledAt (now (text .entry)) r ≡ lineAfter (now (key .entry)) minus (rest (now (text .entry)) self) ⌝ }
+        ensures numbered { λ r. ⌜ lineGives r ≡ model.gives (pos 0) (lineAsked (now (key .entry)) minus (rest (now (text .entry)) self)) ⌝ }
     {
         let After::Here(value) = self.after(text, key) else {
             return Spelled::Wrong;

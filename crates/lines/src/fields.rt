@@ -1,8 +1,10 @@
 // Document 01, question 2: a field, given by its key with the equals sign, on its line; or the refusal of a line that is
 // not right.
 ghost use mathlib.Core.Path.{_≡_};
+ghost use lib.IntN.{pos};
+ghost use Rattle.model.specs.Reading.{gives};
 ghost use Rattle.lines.specs.Places.{rest};
-ghost use Rattle.lines.specs.Fields.{wholeRead, wholeAfter, naturalRead, naturalAfter};
+ghost use Rattle.lines.specs.Fields.{wholeRead, wholeAfter, wholeGives, naturalRead, naturalAfter, naturalGives};
 use crate::cursor::Cursor;
 use crate::cursor::Spelled;
 use model::Limits;
@@ -35,7 +37,8 @@ pub enum NaturalLine {
 impl Cursor {
     // A field before whose number a minus may be allowed.
     pub fn whole_field(self, text: &[u8], key: &[u8], minus: bool, limits: Limits) -> WholeLine
-        ensures { λ r. ⌜ wholeRead (now (text .entry)) r ≡ wholeAfter (now (key .entry)) minus limits (rest (now (text .entry)) self) ⌝ }
+        ensures read { λ r. ⌜ wholeRead (now (text .entry)) r ≡ wholeAfter (now (key .entry)) minus limits (rest (now (text .entry)) self) ⌝ }
+        ensures numbered { λ r. ⌜ wholeGives r ≡ gives (pos 0) (wholeAfter (now (key .entry)) minus limits (rest (now (text .entry)) self)) ⌝ }
     {
         let Spelled::Number(z, next) = self.line(text, key, minus) else {
             return WholeLine::Fault(Refusal::Misspelt);
@@ -49,7 +52,8 @@ impl Cursor {
 
     // A field without a minus.
     pub fn natural_field(self, text: &[u8], key: &[u8], limits: Limits) -> NaturalLine
-        ensures { λ r. ⌜ naturalRead (now (text .entry)) r ≡ naturalAfter (now (key .entry)) limits (rest (now (text .entry)) self) ⌝ }
+        ensures read { λ r. ⌜ naturalRead (now (text .entry)) r ≡ naturalAfter (now (key .entry)) limits (rest (now (text .entry)) self) ⌝ }
+        ensures numbered { λ r. ⌜ naturalGives r ≡ gives 0 (naturalAfter (now (key .entry)) limits (rest (now (text .entry)) self)) ⌝ }
     {
         match self.whole_field(text, key, false, limits) {
             WholeLine::Holds(field) => {

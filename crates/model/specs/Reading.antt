@@ -9,7 +9,7 @@ use mathlib.Core.Option.{Option, some, none}
 use lib.IntN.{ℤ, pos, negsuc, natAbs}
 use lib.ListN.{length}
 use Rattle.ranges.specs.Range.{bytes}
-use Rattle.model.specs.Sheet.{most-bytes, most-digits, most-steps, Limits, within, stepWithin, quantitiesHeld, termsHeld, no-sheet, n-limits, steps-limits, tail-limits, tol-limits, start-limits, radius-limits, terms-limits, to-limits, coef-limits, first-limits, second-limits}
+use Rattle.model.specs.Sheet.{most-bytes, most-digits, most-steps, number, Limits, within, stepWithin, quantitiesHeld, termsHeld, no-sheet, n-limits, steps-limits, tail-limits, tol-limits, start-limits, radius-limits, terms-limits, to-limits, coef-limits, first-limits, second-limits}
 use Rattle.model.specs.declared.Head.{Head}
 use Rattle.model.specs.declared.Start.{Start}
 use Rattle.model.specs.declared.Start.the-variants.{Reading}
@@ -82,6 +82,11 @@ line key spelling text = elim (after (bytes key ++ bytes "=") text) [ some rest 
 pub data Parsed (A : Type 0) : Type 0 where
   parsed : A → List ℕ → Parsed A
   fault : Refusal → Parsed A
+
+-- its number in document 01 and its value: 0 and the result, or the fault's number; a fault has no value, and `blank` is put for it
+unfoldable pub gives : {A : Type 0} → A → Parsed A → ℕ × A
+gives blank (parsed a rest) = (0, a)
+gives blank (fault r) = (number r, blank)
 
 -- a way of reading from the front of some bytes
 abbrev pub Parser : Type 0 → Type 0

@@ -1,9 +1,10 @@
 // Document 01, question 2: the lines of a sheet above its quantities.
 ghost use mathlib.Core.Path.{_≡_};
+ghost use Rattle.model.specs.Sheet.{no-head};
 ghost use Rattle.model.specs.Reading as model;
 ghost use Rattle.lines.specs.Places.{rest};
 ghost use Rattle.lines.specs.Fields.{wholeRead};
-ghost use Rattle.sheet_head.specs.HeadRead.{headRead};
+ghost use Rattle.sheet_head.specs.HeadRead.{headRead, headGives};
 use lines::Cursor;
 use lines::NaturalLine;
 use lines::Spelled;
@@ -34,7 +35,8 @@ fn read_step(text: &[u8], from: Cursor) -> WholeLine
 
 // The lines above the quantities, with at most so many steps.
 pub fn read_head(text: &[u8], most: u32, from: Cursor) -> HeadLines
-    ensures { λ r. ⌜ headRead (now (text .entry)) r ≡ model.head most (rest (now (text .entry)) from) ⌝ }
+    ensures read { λ r. ⌜ headRead (now (text .entry)) r ≡ model.head most (rest (now (text .entry)) from) ⌝ }
+    ensures numbered { λ r. ⌜ headGives r ≡ model.gives no-head (model.head most (rest (now (text .entry)) from)) ⌝ }
 {
     let n = match from.natural_field(text, b"n=", limits::N) {
         NaturalLine::Holds(field) => field,

@@ -1,9 +1,11 @@
 -- `input::read_input` meets its contract: it ends, and reads no further than the buffer.
 use Prim.Native.Nat.{_-_, _≤_}
-use mathlib.Core.Path.{_≡_}
+use mathlib.Core.Path.{_≡_, refl}
+use native.Mathlib.Omega.{arith}
 use lib.ListN.{length}
 use borrow.Author.Needs.{needs}
-use Rattle.input.specs.Counted.{counted}
+use Rattle.input.specs.Counted.{counted, readable}
+use Rattle.input.proofs.Turns.{more-fits}
 use Rattle.input.proofs.read_input.Statement.{statement}
 use Rattle.input.proofs.read_input.Tie as tie
 
@@ -14,16 +16,16 @@ abbrev μ-loop : tie.MeasureT-loop
 μ-loop bytes₀ count₀ bytes count = length bytes - count
 
 returns : tie.Need-returns Inv-loop μ-loop
-unfolding counted
-returns c = search needs
+unfolding counted readable
+returns c = (search needs, (search needs, λ none. absurd (omega arith)))
 
 returns-2 : tie.Need-returns-2 Inv-loop μ-loop
-unfolding counted
-returns-2 c = search needs
+unfolding counted readable
+returns-2 c = (search needs, (search needs, λ none. refl))
 
 returns-3 : tie.Need-returns-3 Inv-loop μ-loop
-unfolding counted
-returns-3 c = search needs
+unfolding counted readable
+returns-3 c = (search needs, (search needs, λ none. refl))
 
 loop-holds : tie.Need-loop-holds Inv-loop μ-loop
 loop-holds c = search needs
@@ -40,29 +42,44 @@ part-read-end c = search needs
 read-requires : tie.Need-read-requires Inv-loop μ-loop
 read-requires c κs = search needs
 
-same-length : tie.Need-same-length Inv-loop μ-loop
-same-length c = search needs
+sub-turn-of : tie.Need-sub-turn-of Inv-loop μ-loop
+sub-turn-of c = search needs
 
-sub-count : tie.Need-sub-count Inv-loop μ-loop
-sub-count c = search needs
+part-turn-of-start : tie.Need-part-turn-of-start Inv-loop μ-loop
+part-turn-of-start c = search needs
 
-part-count-start : tie.Need-part-count-start Inv-loop μ-loop
-part-count-start c = search needs
+part-turn-of-end : tie.Need-part-turn-of-end Inv-loop μ-loop
+part-turn-of-end c = search needs
 
-part-count-end : tie.Need-part-count-end Inv-loop μ-loop
-part-count-end c = search needs
+turn-of-requires : tie.Need-turn-of-requires Inv-loop μ-loop
+turn-of-requires c κs = search needs
 
-count-requires : tie.Need-count-requires Inv-loop μ-loop
-count-requires c κs = search needs
+enum-known-more : tie.Need-enum-known-more Inv-loop μ-loop
+enum-known-more c = search needs
 
 add-count : tie.Need-add-count Inv-loop μ-loop
-add-count c = search needs
+add-count c =
+    let fits = more-fits _ _ (c .before .before .before .turn-of .ensures) (c .before .more .given .1) in
+    search needs
 
 loop-less : tie.Need-loop-less Inv-loop μ-loop
-loop-less c = search needs
+loop-less c =
+    let fits = more-fits _ _ (c .before .before .before .turn-of .ensures) (c .before .more .given .1) in
+    search needs
 
 loop-again : tie.Need-loop-again Inv-loop μ-loop
-loop-again c = search needs
+loop-again c =
+    let fits = more-fits _ _ (c .before .before .before .turn-of .ensures) (c .before .more .given .1) in
+    search needs
+
+enum-told : tie.Need-enum-told Inv-loop μ-loop
+enum-told c = search needs
+
+enum-told-2 : tie.Need-enum-told-2 Inv-loop μ-loop
+enum-told-2 c = search needs
+
+same-length : tie.Need-same-length Inv-loop μ-loop
+same-length c = search needs
 
 same-length-2 : tie.Need-same-length-2 Inv-loop μ-loop
 same-length-2 c = search needs
@@ -81,15 +98,18 @@ read-input-spec =
     part-read-start
     part-read-end
     read-requires
-    same-length
-    returns
-    sub-count
-    part-count-start
-    part-count-end
-    count-requires
+    sub-turn-of
+    part-turn-of-start
+    part-turn-of-end
+    turn-of-requires
+    enum-known-more
     add-count
     loop-less
     loop-again
+    enum-told
+    enum-told-2
+    same-length
+    returns
     same-length-2
     returns-2
     same-length-3

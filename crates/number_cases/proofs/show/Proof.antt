@@ -25,7 +25,7 @@ slice-aggregate-line c = sym (length-take-le _ _ (c .before .before .print-line 
 -- the number that was read
 read-fits : (c : tie.After-z) → natAbs (c .z .given .0 .0) < 2 ^ 32
 unfolding spelledAt
-read-fits c = read-small _ _ (read-as (spelledAt _) (c .before .before .line .ensures) (c .z .given .1))
+read-fits c = read-small _ _ (read-as (spelledAt _) (c .before .before .line .ensures .0) (c .z .given .1))
 
 -- the buffer has kept its length
 slice-aggregate-print-line-3 : tie.Need-slice-aggregate-print-line-3

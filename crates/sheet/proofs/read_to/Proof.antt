@@ -36,7 +36,7 @@ returns c =
 
 head-holds : (c : tie.After-head) → head (c .before .before .before .before .before .args .most) (now (c .before .before .before .before .before .args .text)) ≡ parsed (c .head .given .0 .0) (rest (now (c .before .before .before .before .before .args .text)) (c .head .given .0 .1 .0))
 unfolding headRead rest
-head-holds c = read-as (headRead (now (c .before .before .before .before .before .args .text))) (c .before .before .read-head .ensures) (c .head .given .1)
+head-holds c = read-as (headRead (now (c .before .before .before .before .before .args .text))) (c .before .before .read-head .ensures .0) (c .head .given .1)
 
 returns-2 : tie.Need-returns-2
 returns-2 c =
@@ -49,7 +49,7 @@ unfolding headRead rest
 returns-3 c =
     let told = c .before .before in
     let text = now (told .before .before .before .before .before .args .text) in
-    c .refused2 .ensures ∙ sym (in-parts _ text (omega (arith, told .before .before .before .if1 .left)) ∙ ap accepted (bind-fault _ _ (read-as (headRead text) (told .before .before .read-head .ensures) (told .refusal .given .1))))
+    c .refused2 .ensures ∙ sym (in-parts _ text (omega (arith, told .before .before .before .if1 .left)) ∙ ap accepted (bind-fault _ _ (read-as (headRead text) (told .before .before .read-head .ensures .0) (told .refusal .given .1))))
 
 read-body-requires : tie.Need-read-body-requires
 read-body-requires c κs = few-quantities _ _ (yielded (yields-head _) _ (head-holds (c .before)))

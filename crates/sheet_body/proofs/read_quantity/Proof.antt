@@ -34,7 +34,7 @@ unfolding quantityRead quantity radius-limits from_to_ most bytes
 returns-2 c =
     let refusal = c .before in
     let first = refusal .before .before .before .before .before in
-    sym (bind-parsed _ _ (start-read first) ∙ bind-fault _ _ (field-fault (text first) "radius" _ refl (refusal .before .before .natural-field .ensures) (refusal .refusal2 .given .1)))
+    sym (bind-parsed _ _ (start-read first) ∙ bind-fault _ _ (field-fault (text first) "radius" _ refl (refusal .before .before .natural-field .ensures .0) (refusal .refusal2 .given .1)))
 
 returns-3 : tie.Need-returns-3
 unfolding quantityRead quantity return radius-limits from_to_ most bytes
@@ -42,7 +42,7 @@ returns-3 c =
     let radius = c .before .before .before in
     let first = radius .before .before .before .before .before in
     rw (toZ-ofZ (record { sfits = c .struct-told .given .0 .1 }))
-    (sym (bind-parsed _ _ (start-read first) ∙ bind-parsed _ _ (field-holds (text first) "radius" _ refl (radius .before .before .natural-field .ensures) (radius .field2 .given .1))))
+    (sym (bind-parsed _ _ (start-read first) ∙ bind-parsed _ _ (field-holds (text first) "radius" _ refl (radius .before .before .natural-field .ensures .0) (radius .field2 .given .1))))
 
 read-start-requires : tie.Need-read-start-requires
 read-start-requires c κs = search needs

@@ -44,7 +44,7 @@ returns-2 c =
     let told = c .before .before in
     let at-start = told .before .before .before .before .before in
     rw (read-as (foundAfter (now (at-start .args .text))) (told .before .before .after .ensures) (told .enum-told .given .1), start)
-    (start-of (now (at-start .args .text)) _ (rest (now (at-start .args .text)) (at-start .args .from)) (c .whole-field .result) (c .whole-field .ensures))
+    (start-of (now (at-start .args .text)) _ (rest (now (at-start .args .text)) (at-start .args .from)) (c .whole-field .result) (c .whole-field .ensures .0))
 
 slice-aggregate-after : tie.Need-slice-aggregate-after
 slice-aggregate-after c = search needs

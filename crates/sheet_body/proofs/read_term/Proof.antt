@@ -31,35 +31,35 @@ coef-of c = c .before .before .before .before .before .before
 
 to-read : (c : tie.After-field) → field "to" (to-limits (n c)) (rest (text c) (c .before .before .before .before .before .before .args .from)) ≡ parsed (c .field .given .0 .0 .value) (rest (text c) (c .field .given .0 .0 .next))
 unfolding bytes
-to-read c = field-holds (text c) "to" _ (c .before .before .before .to-limits .ensures) (c .before .before .natural-field .ensures) (c .field .given .1)
+to-read c = field-holds (text c) "to" _ (c .before .before .before .to-limits .ensures) (c .before .before .natural-field .ensures .0) (c .field .given .1)
 
 coef-read : (c : tie.After-field2) → signedField "coef" coef-limits (rest (text (to-of c)) (to-of c .field .given .0 .0 .next)) ≡ parsed (c .field2 .given .0 .0 .value) (rest (text (to-of c)) (c .field2 .given .0 .0 .next))
 unfolding coef-limits ±_ bytes
-coef-read c = signed-holds (text (to-of c)) "coef" _ refl (c .before .before .whole-field .ensures) (c .field2 .given .1)
+coef-read c = signed-holds (text (to-of c)) "coef" _ refl (c .before .before .whole-field .ensures .0) (c .field2 .given .1)
 
 first-read : (c : tie.After-field3) → field "first" (first-limits (n (to-of (coef-of c)))) (rest (text (to-of (coef-of c))) (coef-of c .field2 .given .0 .0 .next)) ≡ parsed (c .field3 .given .0 .0 .value) (rest (text (to-of (coef-of c))) (c .field3 .given .0 .0 .next))
 unfolding bytes
-first-read c = field-holds (text (to-of (coef-of c))) "first" _ (c .before .before .before .first-limits .ensures) (c .before .before .natural-field2 .ensures) (c .field3 .given .1)
+first-read c = field-holds (text (to-of (coef-of c))) "first" _ (c .before .before .before .first-limits .ensures) (c .before .before .natural-field2 .ensures .0) (c .field3 .given .1)
 
 returns : tie.Need-returns
 unfolding termRead term bytes
 returns c =
     let refusal = c .before in
-    sym (bind-fault _ _ (field-fault (now (refusal .before .before .before .before .before .before .args .text)) "to" _ (refusal .before .before .before .to-limits .ensures) (refusal .before .before .natural-field .ensures) (refusal .refusal .given .1)))
+    sym (bind-fault _ _ (field-fault (now (refusal .before .before .before .before .before .before .args .text)) "to" _ (refusal .before .before .before .to-limits .ensures) (refusal .before .before .natural-field .ensures .0) (refusal .refusal .given .1)))
 
 returns-2 : tie.Need-returns-2
 unfolding termRead term coef-limits ±_ bytes
 returns-2 c =
     let refusal = c .before in
     let to = refusal .before .before .before .before .before in
-    sym (bind-parsed _ _ (to-read to) ∙ bind-fault _ _ (signed-fault (text to) "coef" _ refl (refusal .before .before .whole-field .ensures) (refusal .refusal2 .given .1)))
+    sym (bind-parsed _ _ (to-read to) ∙ bind-fault _ _ (signed-fault (text to) "coef" _ refl (refusal .before .before .whole-field .ensures .0) (refusal .refusal2 .given .1)))
 
 returns-3 : tie.Need-returns-3
 unfolding termRead term bytes
 returns-3 c =
     let refusal = c .before in
     let coef = refusal .before .before .before .before .before .before in
-    sym (bind-parsed _ _ (to-read (to-of coef)) ∙ bind-parsed _ _ (coef-read coef) ∙ bind-fault _ _ (field-fault (text (to-of coef)) "first" _ (refusal .before .before .before .first-limits .ensures) (refusal .before .before .natural-field2 .ensures) (refusal .refusal3 .given .1)))
+    sym (bind-parsed _ _ (to-read (to-of coef)) ∙ bind-parsed _ _ (coef-read coef) ∙ bind-fault _ _ (field-fault (text (to-of coef)) "first" _ (refusal .before .before .before .first-limits .ensures) (refusal .before .before .natural-field2 .ensures .0) (refusal .refusal3 .given .1)))
 
 returns-4 : tie.Need-returns-4
 unfolding termRead term bytes
@@ -67,7 +67,7 @@ returns-4 c =
     let refusal = c .before in
     let first = refusal .before .before .before .before .before .before in
     let coef = coef-of first in
-    sym (bind-parsed _ _ (to-read (to-of coef)) ∙ bind-parsed _ _ (coef-read coef) ∙ bind-parsed _ _ (first-read first) ∙ bind-fault _ _ (field-fault (text (to-of coef)) "second" _ (refusal .before .before .before .second-limits .ensures) (refusal .before .before .natural-field3 .ensures) (refusal .refusal4 .given .1)))
+    sym (bind-parsed _ _ (to-read (to-of coef)) ∙ bind-parsed _ _ (coef-read coef) ∙ bind-parsed _ _ (first-read first) ∙ bind-fault _ _ (field-fault (text (to-of coef)) "second" _ (refusal .before .before .before .second-limits .ensures) (refusal .before .before .natural-field3 .ensures .0) (refusal .refusal4 .given .1)))
 
 returns-5 : tie.Need-returns-5
 unfolding termRead term return bytes
@@ -76,7 +76,7 @@ returns-5 c =
     let first = second .before .before .before .before .before .before in
     let coef = coef-of first in
     rw (toZ-ofZ (record { sfits = c .struct-told .given .0 .1 }))
-    (sym (bind-parsed _ _ (to-read (to-of coef)) ∙ bind-parsed _ _ (coef-read coef) ∙ bind-parsed _ _ (first-read first) ∙ bind-parsed _ _ (field-holds (text (to-of coef)) "second" _ (second .before .before .before .second-limits .ensures) (second .before .before .natural-field3 .ensures) (second .field4 .given .1))))
+    (sym (bind-parsed _ _ (to-read (to-of coef)) ∙ bind-parsed _ _ (coef-read coef) ∙ bind-parsed _ _ (first-read first) ∙ bind-parsed _ _ (field-holds (text (to-of coef)) "second" _ (second .before .before .before .second-limits .ensures) (second .before .before .natural-field3 .ensures .0) (second .field4 .given .1))))
 
 cast-second-limits : tie.Need-cast-second-limits
 cast-second-limits c =

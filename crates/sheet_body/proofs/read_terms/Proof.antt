@@ -30,7 +30,7 @@ text c = now (c .before .before .before .before .before .before .args .text)
 
 count-read : (c : tie.After-field Inv-loop μ-loop) → field "terms" terms-limits (rest (text c) (c .before .before .before .before .before .before .args .from)) ≡ parsed (c .field .given .0 .0 .value) (rest (text c) (c .field .given .0 .0 .next))
 unfolding terms-limits from_to_ bytes
-count-read c = field-holds (text c) "terms" _ refl (c .before .before .natural-field .ensures) (c .field .given .1)
+count-read c = field-holds (text c) "terms" _ refl (c .before .before .natural-field .ensures .0) (c .field .given .1)
 
 count-fits : (c : tie.After-field Inv-loop μ-loop) → c .field .given .0 .0 .value ≤ most-terms
 unfolding terms-limits
@@ -44,7 +44,7 @@ returns : tie.Need-returns Inv-loop μ-loop
 unfolding termsRead withOutcome terms terms-limits from_to_ bytes
 returns c =
     let refusal = c .before in
-    sym (bind-fault _ _ (field-fault (now (refusal .before .before .before .before .before .before .args .text)) "terms" _ refl (refusal .before .before .natural-field .ensures) (refusal .refusal .given .1)))
+    sym (bind-fault _ _ (field-fault (now (refusal .before .before .before .before .before .before .args .text)) "terms" _ refl (refusal .before .before .natural-field .ensures .0) (refusal .refusal .given .1)))
 
 loop-holds : tie.Need-loop-holds Inv-loop μ-loop
 unfolding times return

@@ -12,6 +12,8 @@ use Rattle.lines.specs.Fields.{wholeRead}
 use Rattle.lines.proofs.Spellings.{read-as}
 use Rattle.sheet_head.specs.HeadRead.{headRead}
 use Rattle.lines.proofs.FieldsRead.{bind-parsed, bind-fault, field-holds, field-fault}
+use Rattle.sheet_head.specs.declared.HeadLines.the-variants.{Hold, Fault}
+use Rattle.sheet_head.proofs.HeadNumbers.{head-numbered}
 use borrow.Author.Needs.{needs}
 use Rattle.sheet_head.proofs.read_head.Statement.{statement}
 use Rattle.sheet_head.proofs.read_head.Tie as tie
@@ -32,11 +34,11 @@ step-of c = c .before .before .before .before .before
 
 n-read : (c : tie.After-field) → field "n" n-limits (rest (text c) (c .before .before .before .before .before .args .from)) ≡ parsed (c .field .given .0 .0 .value) (rest (text c) (c .field .given .0 .0 .next))
 unfolding n-limits from_to_ bytes
-n-read c = field-holds (text c) "n" _ refl (c .before .before .natural-field .ensures) (c .field .given .1)
+n-read c = field-holds (text c) "n" _ refl (c .before .before .natural-field .ensures .0) (c .field .given .1)
 
 steps-read : (c : tie.After-field2) → field "steps" (steps-limits (n-of c .before .before .before .before .before .args .most)) (rest (text (n-of c)) (n-of c .field .given .0 .0 .next)) ≡ parsed (c .field2 .given .0 .0 .value) (rest (text (n-of c)) (c .field2 .given .0 .0 .next))
 unfolding bytes
-steps-read c = field-holds (text (n-of c)) "steps" _ (c .before .before .before .steps-limits .ensures) (c .before .before .natural-field2 .ensures) (c .field2 .given .1)
+steps-read c = field-holds (text (n-of c)) "steps" _ (c .before .before .before .steps-limits .ensures) (c .before .before .natural-field2 .ensures .0) (c .field2 .given .1)
 
 step-read : (c : tie.After-field3) → step (rest (text (n-of (steps-of c))) (steps-of c .field2 .given .0 .0 .next)) ≡ parsed (c .field3 .given .0 .0 .value) (rest (text (n-of (steps-of c))) (c .field3 .given .0 .0 .next))
 unfolding wholeRead
@@ -44,27 +46,27 @@ step-read c = read-as (wholeRead (text (n-of (steps-of c)))) (c .before .before 
 
 tail-read : (c : tie.After-field4) → field "tail" tail-limits (rest (text (n-of (steps-of (step-of c)))) (step-of c .field3 .given .0 .0 .next)) ≡ parsed (c .field4 .given .0 .0 .value) (rest (text (n-of (steps-of (step-of c)))) (c .field4 .given .0 .0 .next))
 unfolding tail-limits from_to_ scale bytes
-tail-read c = field-holds (text (n-of (steps-of (step-of c)))) "tail" _ refl (c .before .before .natural-field3 .ensures) (c .field4 .given .1)
+tail-read c = field-holds (text (n-of (steps-of (step-of c)))) "tail" _ refl (c .before .before .natural-field3 .ensures .0) (c .field4 .given .1)
 
 returns : tie.Need-returns
 unfolding headRead head n-limits from_to_ bytes
 returns c =
     let refusal = c .before in
-    sym (bind-fault _ _ (field-fault (now (refusal .before .before .before .before .before .args .text)) "n" _ refl (refusal .before .before .natural-field .ensures) (refusal .refusal .given .1)))
+    head-numbered (now (refusal .before .before .before .before .before .args .text)) (Fault _) (sym (bind-fault _ _ (field-fault (now (refusal .before .before .before .before .before .args .text)) "n" _ refl (refusal .before .before .natural-field .ensures .0) (refusal .refusal .given .1))))
 
 returns-2 : tie.Need-returns-2
 unfolding headRead head bytes
 returns-2 c =
     let refusal = c .before in
     let n = refusal .before .before .before .before .before .before in
-    sym (bind-parsed _ _ (n-read n) ∙ bind-fault _ _ (field-fault (text n) "steps" _ (refusal .before .before .before .steps-limits .ensures) (refusal .before .before .natural-field2 .ensures) (refusal .refusal2 .given .1)))
+    head-numbered (text n) (Fault _) (sym (bind-parsed _ _ (n-read n) ∙ bind-fault _ _ (field-fault (text n) "steps" _ (refusal .before .before .before .steps-limits .ensures) (refusal .before .before .natural-field2 .ensures .0) (refusal .refusal2 .given .1))))
 
 returns-3 : tie.Need-returns-3
 unfolding headRead head wholeRead
 returns-3 c =
     let refusal = c .before in
     let steps = refusal .before .before .before .before .before in
-    sym (bind-parsed _ _ (n-read (n-of steps)) ∙ bind-parsed _ _ (steps-read steps) ∙ bind-fault _ _ (read-as (wholeRead (text (n-of steps))) (refusal .before .before .read-step .ensures) (refusal .refusal3 .given .1)))
+    head-numbered (text (n-of steps)) (Fault _) (sym (bind-parsed _ _ (n-read (n-of steps)) ∙ bind-parsed _ _ (steps-read steps) ∙ bind-fault _ _ (read-as (wholeRead (text (n-of steps))) (refusal .before .before .read-step .ensures) (refusal .refusal3 .given .1))))
 
 returns-4 : tie.Need-returns-4
 unfolding headRead head tail-limits from_to_ scale bytes
@@ -72,7 +74,7 @@ returns-4 c =
     let refusal = c .before in
     let step = refusal .before .before .before .before .before in
     let steps = steps-of step in
-    sym (bind-parsed _ _ (n-read (n-of steps)) ∙ bind-parsed _ _ (steps-read steps) ∙ bind-parsed _ _ (step-read step) ∙ bind-fault _ _ (field-fault (text (n-of steps)) "tail" _ refl (refusal .before .before .natural-field3 .ensures) (refusal .refusal4 .given .1)))
+    head-numbered (text (n-of steps)) (Fault _) (sym (bind-parsed _ _ (n-read (n-of steps)) ∙ bind-parsed _ _ (steps-read steps) ∙ bind-parsed _ _ (step-read step) ∙ bind-fault _ _ (field-fault (text (n-of steps)) "tail" _ refl (refusal .before .before .natural-field3 .ensures .0) (refusal .refusal4 .given .1))))
 
 returns-5 : tie.Need-returns-5
 unfolding headRead head tol-limits from_to_ most bytes
@@ -81,7 +83,7 @@ returns-5 c =
     let tail = refusal .before .before .before .before .before in
     let step = step-of tail in
     let steps = steps-of step in
-    sym (bind-parsed _ _ (n-read (n-of steps)) ∙ bind-parsed _ _ (steps-read steps) ∙ bind-parsed _ _ (step-read step) ∙ bind-parsed _ _ (tail-read tail) ∙ bind-fault _ _ (field-fault (text (n-of steps)) "tol" _ refl (refusal .before .before .natural-field4 .ensures) (refusal .refusal5 .given .1)))
+    head-numbered (text (n-of steps)) (Fault _) (sym (bind-parsed _ _ (n-read (n-of steps)) ∙ bind-parsed _ _ (steps-read steps) ∙ bind-parsed _ _ (step-read step) ∙ bind-parsed _ _ (tail-read tail) ∙ bind-fault _ _ (field-fault (text (n-of steps)) "tol" _ refl (refusal .before .before .natural-field4 .ensures .0) (refusal .refusal5 .given .1))))
 
 returns-6 : tie.Need-returns-6
 unfolding headRead head return tol-limits from_to_ scale most bytes
@@ -91,7 +93,7 @@ returns-6 c =
     let step = step-of tail in
     let steps = steps-of step in
     rw (toZ-ofZ (record { sfits = c .struct-told .given .0 .1 }))
-    (sym (bind-parsed _ _ (n-read (n-of steps)) ∙ bind-parsed _ _ (steps-read steps) ∙ bind-parsed _ _ (step-read step) ∙ bind-parsed _ _ (tail-read tail) ∙ bind-parsed _ _ (field-holds (text (n-of steps)) "tol" _ refl (tol .before .before .natural-field4 .ensures) (tol .field5 .given .1))))
+    (head-numbered (text (n-of steps)) (Hold _ _) (sym (bind-parsed _ _ (n-read (n-of steps)) ∙ bind-parsed _ _ (steps-read steps) ∙ bind-parsed _ _ (step-read step) ∙ bind-parsed _ _ (tail-read tail) ∙ bind-parsed _ _ (field-holds (text (n-of steps)) "tol" _ refl (tol .before .before .natural-field4 .ensures .0) (tol .field5 .given .1)))))
 
 slice-aggregate-natural-field : tie.Need-slice-aggregate-natural-field
 slice-aggregate-natural-field c = search needs

@@ -17,12 +17,12 @@ returns : tie.Need-returns
 unfolding wholeRead step line lineAfter spelling bytes spelledAt
 returns c =
     let at-start = c .before .before .before .before .before in
-    sym (ranged-wrong stepWithin (read-as (spelledAt (now (at-start .args .text))) (c .before .before .line .ensures) (c .enum-told .given .1)))
+    sym (ranged-wrong stepWithin (read-as (spelledAt (now (at-start .args .text))) (c .before .before .line .ensures .0) (c .enum-told .given .1)))
 
 -- the number of the line ..
 number-read : (c : tie.After-step) → let at-start = c .before .before .before .before .before in line "step" signed (rest (now (at-start .args .text)) (at-start .args .from)) ≡ spelled (c .step .given .0 .0) (rest (now (at-start .args .text)) (c .step .given .0 .1 .0))
 unfolding line lineAfter spelling bytes spelledAt
-number-read c = read-as (spelledAt (now (c .before .before .before .before .before .args .text))) (c .before .before .line .ensures) (c .step .given .1)
+number-read c = read-as (spelledAt (now (c .before .before .before .before .before .args .text))) (c .before .before .line .ensures .0) (c .step .given .1)
 
 -- .. and whether it is a step, of the number itself and not of its bits
 number-fits : (c : tie.After-step-within) → c .step-within .result ≡ stepWithin (c .before .before .step .given .0 .0)
