@@ -54,6 +54,14 @@ A-from start radius = sheetLines "1" "4194304" "349526" "349534" start radius sq
 abbrev pub A-answer : String
 A-answer = "row=1\ndegree=2\nvalue=22020096\nradius=349534\nlow=11184802\nhigh=22369630\nresult=0\nat=0\n"
 
+-- one step of so many quantities: n, step, tail, and then the quantities and the terms
+abbrev pub several : String → String → String → String → String → String
+several n step tail quantities terms = "n=" & n & "\nsteps=1\nstep=" & step & "\ntail=" & tail & "\ntol=536870912\n" & quantities & "terms=" & terms
+
+-- a quantity: its start and its radius
+abbrev pub startLines : String → String → String
+startLines start radius = "start=" & start & "\nradius=" & radius & "\n"
+
 -- two quantities, each in the other's rate, with this step and tolerance: x' = y, y' = -x × y
 abbrev pub two : String → String → String
 two step tol =
