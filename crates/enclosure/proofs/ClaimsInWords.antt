@@ -2,7 +2,7 @@
 -- is used here and each premise is met, so that neither a claim can say less nor a premise ask more than is said.
 use Prim.Native.Nat.{ℕ, zero, suc, _*_, _≤_, _<_}
 use mathlib.Core.List.{List}
-use mathlib.Core.Path.{_≡_, ap, sym, _∙_}
+use mathlib.Core.Path.{_≡_, ap, sym, subst, _∙_}
 use native.Mathlib.Omega.{arith}
 use lib.IntN.{ℤ, pos, natAbs, _-ℤ_, _*ℤ_}
 use lib.ListN.{length, getD}
@@ -78,8 +78,15 @@ module _ (balls : List Ball) (n : ℕ) (value : ℕ → ℤ) (radius : ℕ → �
 module _ (spans : List Span) (n : ℕ) (low high : ℕ → ℤ) (wide : length spans ≡ n)
     (lows : (i : ℕ) → i < n → getD spans i no-span .low ≡ low i) (highs : (i : ℕ) → i < n → getD spans i no-span .high ≡ high i) where
   between-says : {state : State} → LiesBetween spans state → Between n state low high
-  between-says b =
-      (b .rational, (b .quantities ∙ wide, λ i h. let l : i < length spans = omega (arith, wide) in (rw (lows i h) at (b .above i l), rw (highs i h) at (b .below i l))))
+  between-says {state} b = (b .rational, (b .quantities ∙ wide, λ i h. (above i h (omega (arith, wide)), below i h (omega (arith, wide)))))
+    where
+      above : (i : ℕ) → i < n → i < length spans → (low i *ℤ pos (state .denominator)) ≤ℤ (pos scale *ℤ getD (state .numerators) i (pos 0))
+      above i h l =
+          subst (λ (low : ℤ). (low *ℤ pos (state .denominator)) ≤ℤ (pos scale *ℤ getD (state .numerators) i (pos 0))) (lows i h) (b .above i l)
+
+      below : (i : ℕ) → i < n → i < length spans → (pos scale *ℤ getD (state .numerators) i (pos 0)) ≤ℤ (high i *ℤ pos (state .denominator))
+      below i h l =
+          subst (λ (high : ℤ). (pos scale *ℤ getD (state .numerators) i (pos 0)) ≤ℤ (high *ℤ pos (state .denominator))) (highs i h) (b .below i l)
 
 -- ---- the rows in the buffer, and the start
 
