@@ -16,7 +16,7 @@ use Rattle.rounding.proofs.Roundings.{up-not-below}
 use Rattle.ranges.specs.Range.{largest}
 use Rattle.model.specs.Sheet.{scale}
 use Rattle.enclosure.specs.Exact.{State, sumDenominator, sumNumerator, exactSum}
-use Rattle.model.specs.Step.{no-ball, reach, greatest, size, ratio, tailAt, degree, coefficientsTo, newBall, newRow, stepRow}
+use Rattle.model.specs.Step.{no-ball, reach, greatest, coefs, size, ratioBy, ratio, tailAt, degree, coefficientsTo, newBall, newRow, stepRow}
 use Rattle.model.specs.declared.Ball.{Ball}
 use Rattle.model.specs.Passage.{slow, most-ratio}
 use Rattle.enclosure.specs.Trust.{LiesWithin}
@@ -77,10 +77,10 @@ module _ (terms : List Term) (formed : WellFormed terms) (H : ℤ) (balls : List
 
   -- At a step of h ÷ w that is no longer than H ÷ s:
   module _ (h : ℤ) (w : ℕ) (positive : 0 < w) (no-longer : natAbs h * scale ≤ natAbs H * w) where
-    sizes-under : (i : ℕ) → i < length (state .numerators) → size terms G (suc i) * natAbs h ≤ q * w
-    unfolding ratio
+    sizes-under : (i : ℕ) → i < length (state .numerators) → size G (coefs terms (suc i)) * natAbs h ≤ q * w
+    unfolding ratio ratioBy
     sizes-under i lt =
-        shorter (size terms G (suc i)) (le-trans (mul-le-mul-right (natAbs H) (largest-le (length balls) (λ j. size terms G (suc j)) i (rw (start .quantities) at lt))) (up-not-below (largest (length balls) (λ j. size terms G (suc j)) * natAbs H) scale-positive))
+        shorter (size G (coefs terms (suc i))) (le-trans (mul-le-mul-right (natAbs H) (largest-le (length balls) (λ j. size G (coefs terms (suc j))) i (rw (start .quantities) at lt))) (up-not-below (largest (length balls) (λ j. size G (coefs terms (suc j))) * natAbs H) scale-positive))
       where
         shorter : (b : ℕ) → b * natAbs H ≤ q * scale → b * natAbs h ≤ q * w
         shorter b under = le-of-mul-le-mul-right {k = scale} (omega (arith, mul-le-mul-left b no-longer, mul-le-mul-right w under)) scale-positive

@@ -16,7 +16,7 @@ use Rattle.rounding.proofs.Integers.{ringℕ, abs-mul}
 use Rattle.ranges.specs.Range.{sum, sumℤ}
 use Rattle.model.specs.Sheet.{scale, no-term}
 use Rattle.enclosure.specs.Exact.{State, binomial, order, ordersTo, factorℤ, product, nextOrder, sumDenominator}
-use Rattle.model.specs.Step.{bringsℤ, brings, size}
+use Rattle.model.specs.Step.{bringsℤ, brings, coefs, size}
 use Rattle.model.specs.declared.Term.{Term}
 use Rattle.enclosure.proofs.Binomial.{binomial-denominators}
 use Rattle.ranges.proofs.Ranges.{sum-le, sum-constant, sum-factor, abs-sumℤ-le}
@@ -129,7 +129,7 @@ module _ (terms : List Term) (state : State) (h : ℤ) (w G q : ℕ) where
       rw (sum-factor (length terms) (suc k * (q ^ k * (D * M k))) (λ j. brings (suc i) (getD terms j no-term) (weighs G (getD terms j no-term)))) (abs-sum-under (length terms) (scale * scale * step k) _ _ (λ j lt. brings-under (suc i) (getD terms j no-term) (scale * scale * step k) (suc k * (q ^ k * (D * M k))) _ _ (product-under k (getD terms j no-term) (formed .absent j) under)))
 
   -- Where every start is at most G, and every size times |h| ÷ w at most q:
-  module _ (formed : WellFormed terms) (large : scale ≤ G) (starts : (i : ℕ) → scale * natAbs (getD (state .numerators) i (pos 0)) ≤ G * D) (slow : (i : ℕ) → i < length (state .numerators) → size terms G (suc i) * natAbs h ≤ q * w) where
+  module _ (formed : WellFormed terms) (large : scale ≤ G) (starts : (i : ℕ) → scale * natAbs (getD (state .numerators) i (pos 0)) ≤ G * D) (slow : (i : ℕ) → i < length (state .numerators) → size G (coefs terms (suc i)) * natAbs h ≤ q * w) where
     first-order : (factor : ℕ) → Under 0 factor
     unfolding factorℤ factorScale sumDenominator
     first-order zero = record { bound = rw (pow-zero (natAbs h * scale), pow-zero q) (omega arith) }
@@ -146,7 +146,7 @@ module _ (terms : List Term) (state : State) (h : ℤ) (w G q : ℕ) where
 
         by-place : Dec (i < length (state .numerators)) → scale * natAbs (order (ordersTo terms state (suc k)) (suc k) i) * (step k * (natAbs h * scale)) ≤ suc k * (q ^ k * (D * M k)) * (G * q) * (scale * w)
         by-place (yes lt) =
-            rw (orders-grow terms state .continues k i lt) (next-by-ratio (step k) _ (suc k * (q ^ k * (D * M k))) (weightOf terms G (suc i)) (size terms G (suc i)) (natAbs h) w G q (next-under formed k i under) (weight-by-size terms (suc i) (omega (arith, scale-positive))) (slow i lt))
+            rw (orders-grow terms state .continues k i lt) (next-by-ratio (step k) _ (suc k * (q ^ k * (D * M k))) (weightOf terms G (suc i)) (size G (coefs terms (suc i))) (natAbs h) w G q (next-under formed k i under) (weight-by-size terms (suc i) (omega (arith, scale-positive))) (slow i lt))
         by-place (no past) = rw (orders-grow terms state .past (suc k) (suc k) i (le-refl (suc k)) (omega arith)) (omega arith)
 
     all-under : (k : ℕ) → UnderTo k

@@ -264,7 +264,8 @@ listed terms = tabulate (terms .count) (λ j. getD (terms .list) j no-term)
 unfoldable pub termsOf : Sheet → List Term
 termsOf sheet = listed (sheet .terms)
 
--- a start is a number here: refusal 4 comes before any step, so that the second case does not occur
+-- a start is a number here: refusal 4 comes before any step, so that the second case does not occur (`start-is-read` of
+-- crates/laws/proofs/Text/Readings.antt)
 unfoldable pub startValue : Start → ℤ
 startValue (Reading z) = z
 startValue Missing = pos 0

@@ -51,13 +51,17 @@ unfoldable pub coefs : List Term → ℕ → ℕ → ℕ
 coefs terms target count =
     sum (length terms) (λ j. brings target (getD terms j no-term) (coefOf count (getD terms j no-term)))
 
--- a target's size
-unfoldable pub size : List Term → ℕ → ℕ → ℕ
-size terms G target = up (scale * coefs terms target 0) G + coefs terms target 1 + up (G * coefs terms target 2) scale
+-- a target's size: up(s × Z0, G) + Z1 + up(G × Z2, s)
+unfoldable pub size : ℕ → (ℕ → ℕ) → ℕ
+size G Z = up (scale * Z 0) G + Z 1 + up (G * Z 2) scale
 
--- q = up(b × |H|, s), b being the largest size over the n quantities
+-- q = up(b × |H|, s), b being the largest size over the n quantities; Z i are the sums of quantity i
+unfoldable pub ratioBy : (ℕ → ℕ → ℕ) → ℤ → ℕ → ℕ → ℕ
+ratioBy Z H n G = up (largest n (λ i. size G (Z i)) * natAbs H) scale
+
+-- by the sums of these terms
 unfoldable pub ratio : List Term → ℤ → ℕ → ℕ → ℕ
-ratio terms H n G = up (largest n (λ i. size terms G (suc i)) * natAbs H) scale
+ratio terms H n G = ratioBy (λ i. coefs terms (suc i)) H n G
 
 -- p_j
 unfoldable pub majorant : ℕ → ℕ → ℕ → ℕ

@@ -6,12 +6,12 @@ use native.Mathlib.Omega.{arith}
 use lib.IntN.{ℤ, natAbs}
 use Rattle.rounding.specs.Rounding.{up}
 use Rattle.model.specs.Sheet.{scale}
-use Rattle.model.specs.Step.{greatest, size, ratio}
+use Rattle.model.specs.Step.{greatest, coefs, size, ratioBy, ratio}
 use Rattle.laws.specs.Bounds.{total, most-total}
 use Rattle.model.specs.declared.Ball.{Ball}
 use Rattle.model.specs.declared.Term.{Term}
 use Rattle.laws.proofs.Bounds.RatioNumbers.{coefs-le}
-use Rattle.ratio.specs.Ratio.{counts, SumsOf, Bounded, sizeBy, ratioBy}
+use Rattle.ratio.specs.Ratio.{counts, sumAt, SumsOf, Bounded}
 use Rattle.ratio.proofs.Balls.{largest-equal}
 
 -- Z0 stands first
@@ -20,17 +20,17 @@ first-place i = omega arith
 
 module _ {terms : List Term} {n : ℕ} {sums : List ℕ} (of : SumsOf terms n sums) where
   -- a target's size ..
-  size-is : (G i : ℕ) → i < n → sizeBy sums G i ≡ size terms G (suc i)
-  unfolding sizeBy size
+  size-is : (G i : ℕ) → i < n → size G (sumAt sums i) ≡ size G (coefs terms (suc i))
+  unfolding size
   size-is G i h = rw (of .each i h 0 (omega arith), of .each i h 1 (omega arith), of .each i h 2 (omega arith))
 
   -- .. and so the ratio
-  ratio-by-sums : (H : ℤ) (G : ℕ) → ratioBy sums H n G ≡ ratio terms H n G
+  ratio-by-sums : (H : ℤ) (G : ℕ) → ratioBy (sumAt sums) H n G ≡ ratio terms H n G
   unfolding ratioBy ratio
   ratio-by-sums H G = ap (λ (b : ℕ). up (b * natAbs H) scale) (largest-equal n _ _ (size-is G))
 
   -- at the G of the balls that a step starts from
-  pub ratio-is : (H : ℤ) {G q : ℕ} (balls : List Ball) → G ≡ greatest balls → q ≡ ratioBy sums H n G → q ≡ ratio terms H n (greatest balls)
+  pub ratio-is : (H : ℤ) {G q : ℕ} (balls : List Ball) → G ≡ greatest balls → q ≡ ratioBy (sumAt sums) H n G → q ≡ ratio terms H n (greatest balls)
   ratio-is H {G} balls g e = e ∙ ratio-by-sums H G ∙ ap (ratio terms H n) g
 
   -- no sum is above that of all terms

@@ -1,11 +1,8 @@
--- Z0, Z1 and Z2 of each target as the code holds them, and the ratio by these.
+-- Z0, Z1 and Z2 of each target as the code holds them.
 use Prim.Native.Nat.{ℕ, suc, _+_, _*_, _≤_, _<_}
 use mathlib.Core.List.{List}
 use mathlib.Core.Path.{_≡_}
-use lib.IntN.{ℤ, natAbs}
 use lib.ListN.{getD}
-use Rattle.rounding.specs.Rounding.{up}
-use Rattle.ranges.specs.Range.{largest}
 use Rattle.model.specs.Sheet.{scale, most, most-quantities}
 use Rattle.model.specs.Step.{coefs}
 use Rattle.laws.specs.Bounds.{most-total}
@@ -37,11 +34,3 @@ pub record Sized (n G : ℕ) (sums : List ℕ) : Type 0 where
   pub few : n ≤ most-quantities
   pub bounded : Bounded n sums
   pub reaching : Reaching G
-
--- a target's size: up(s × Z0, G) + Z1 + up(G × Z2, s)
-unfoldable pub sizeBy : List ℕ → ℕ → ℕ → ℕ
-sizeBy sums G i = up (scale * sumAt sums i 0) G + sumAt sums i 1 + up (G * sumAt sums i 2) scale
-
--- q = up(b × |H|, s), b being the largest size over the n quantities
-unfoldable pub ratioBy : List ℕ → ℤ → ℕ → ℕ → ℕ
-ratioBy sums H n G = up (largest n (sizeBy sums G) * natAbs H) scale

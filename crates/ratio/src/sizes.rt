@@ -7,7 +7,7 @@ ghost use Rattle.ranges.specs.Range.{largest};
 ghost use Rattle.model.specs.Step as rule;
 ghost use Rattle.model.specs.Rows.{ballIn, ballsIn};
 ghost use Rattle.laws.specs.Bounds.{Summable};
-ghost use Rattle.ratio.specs.Ratio.{SumsOf, Sized, sizeBy, ratioBy};
+ghost use Rattle.ratio.specs.Ratio.{sumAt, SumsOf, Sized};
 use model::MOST_QUANTITIES;
 use model::SCALE;
 use model::Term;
@@ -112,7 +112,7 @@ pub fn sums_of(n: usize, terms: Terms) -> [u64; SUMS]
 // A target's size: up(s × Z0, G) + Z1 + up(G × Z2, s).
 fn size(i: usize, reach: u64, sums: &[u64; SUMS]) -> u64
     requires { ⌜ Sized (suc i) reach (now sums) ⌝ }
-    ensures { λ r. ⌜ r ≡ sizeBy (now (sums .entry)) reach i ⌝ }
+    ensures { λ r. ⌜ r ≡ rule.size reach (sumAt (now (sums .entry)) i) ⌝ }
 {
     let first = COUNTS * i;
     let none = sums[first];
@@ -124,7 +124,7 @@ fn size(i: usize, reach: u64, sums: &[u64; SUMS]) -> u64
 // b: the largest size over the n quantities.
 fn largest_size(n: usize, reach: u64, sums: &[u64; SUMS]) -> u64
     requires { ⌜ Sized n reach (now sums) ⌝ }
-    ensures { λ r. ⌜ r ≡ largest n (sizeBy (now (sums .entry)) reach) ⌝ }
+    ensures { λ r. ⌜ r ≡ largest n (λ i. rule.size reach (sumAt (now (sums .entry)) i)) ⌝ }
 {
     let mut largest = 0;
     let mut i = 0;
@@ -139,7 +139,7 @@ fn largest_size(n: usize, reach: u64, sums: &[u64; SUMS]) -> u64
 pub fn ratio(n: usize, step: i64, reach: u64, sums: &[u64; SUMS]) -> u64
     requires { ⌜ natAbs step ≤ scale ⌝ }
     requires { ⌜ Sized n reach (now sums) ⌝ }
-    ensures { λ r. ⌜ r ≡ ratioBy (now (sums .entry)) step n reach ⌝ }
+    ensures { λ r. ⌜ r ≡ rule.ratioBy (sumAt (now (sums .entry))) step n reach ⌝ }
 {
     let largest = largest_size(n, reach, sums);
     up(largest * magnitude(step), SCALE)

@@ -12,7 +12,7 @@ use lib.ListN.{length, getD}
 use Rattle.rounding.proofs.Roundings.{up-not-below}
 use Rattle.ranges.specs.Range.{sum, largest}
 use Rattle.model.specs.Sheet.{scale, no-term}
-use Rattle.model.specs.Step.{factors, brings, coefOf, coefs, size, ratio}
+use Rattle.model.specs.Step.{factors, brings, coefOf, coefs, size, ratioBy, ratio}
 use Rattle.model.specs.declared.Term.{Term}
 use Rattle.ranges.proofs.Ranges.{largest-le}
 use Rattle.laws.proofs.Bounds.Reach.{scale-positive}
@@ -70,16 +70,16 @@ weight-by-count terms G target = go (length terms)
 
 -- ---- the ratio
 
-pub weight-by-size : (terms : List Term) {G : ℕ} (target : ℕ) → 0 < G → weightOf terms G target ≤ scale * (G * size terms G target)
+pub weight-by-size : (terms : List Term) {G : ℕ} (target : ℕ) → 0 < G → weightOf terms G target ≤ scale * (G * size G (coefs terms target))
 unfolding size
 weight-by-size terms {G} target h =
     omega (arith, weight-by-count terms G target, mul-le-mul-left scale (up-not-below (scale * coefs terms target 0) h), mul-le-mul-left G (up-not-below (G * coefs terms target 2) scale-positive))
 
 pub weight-by-ratio : (terms : List Term) (H : ℤ) (n : ℕ) {G : ℕ} (i : ℕ) → 0 < G → i < n →
     natAbs H * weightOf terms G (suc i) ≤ G * ratio terms H n G * (scale * scale)
-unfolding ratio
+unfolding ratio ratioBy
 weight-by-ratio terms H n {G} i h l =
-    combine (natAbs H) (weightOf terms G (suc i)) (size terms G (suc i)) (largest n (λ j. size terms G (suc j))) _ (weight-by-size terms (suc i) h) (largest-le n (λ j. size terms G (suc j)) i l) (up-not-below _ scale-positive)
+    combine (natAbs H) (weightOf terms G (suc i)) (size G (coefs terms (suc i))) (largest n (λ j. size G (coefs terms (suc j)))) _ (weight-by-size terms (suc i) h) (largest-le n (λ j. size G (coefs terms (suc j))) i l) (up-not-below _ scale-positive)
   where
     combine : (a w b c q : ℕ) → w ≤ scale * (G * b) → b ≤ c → c * a ≤ q * scale → a * w ≤ G * q * (scale * scale)
     combine a w b c q f g k =

@@ -14,7 +14,7 @@ use Rattle.rounding.proofs.Integers.{neg-mulℤ, mul-negℤ, abs-neg}
 use Rattle.rounding.proofs.Roundings.{near-neg}
 use Rattle.ranges.specs.Range.{largest}
 use Rattle.model.specs.Sheet.{scale, most-coef, no-term, ±_, within, coef-limits, inRange, stepWithin, stepVerdict, headVerdict, termVerdict, termsVerdict, sheetVerdictTo, sheetVerdict, listed, termsOf, startsOf}
-use Rattle.model.specs.Step.{bringsℤ, greatest, factors, brings, coefOf, coefs, size, ratio, Coefficients, times, share, nextCoefficient, coefficientsTo, newRow, stepRow}
+use Rattle.model.specs.Step.{bringsℤ, greatest, factors, brings, coefOf, coefs, size, ratioBy, ratio, Coefficients, times, share, nextCoefficient, coefficientsTo, newRow, stepRow}
 use Rattle.model.specs.LikeTerms.{like, coefsLike, filter, summed, nonzero, gathered}
 use Rattle.model.specs.declared.Ball.{Ball}
 use Rattle.model.specs.Passage.{slow, advance, goOn, follow, placesNeeded, run, passage}
@@ -94,8 +94,8 @@ module _ (terms : List Term) (H : ℤ) where
       (sum-equal (length terms) _ _ (λ j h. rw (getD-opposite terms j, abs-neg (getD terms j no-term .coef))))
 
   ratio-opposite : (n G : ℕ) → ratio (map opposite terms) (negℤ H) n G ≡ ratio terms H n G
-  unfolding ratio size
-  ratio-opposite n G = ap₂ (λ (f : ℕ → ℕ) (m : ℕ). up (largest n f * m) scale) (λ t i. up (scale * coefs-opposite (suc i) 0 t) G + coefs-opposite (suc i) 1 t + up (G * coefs-opposite (suc i) 2 t) scale) (abs-neg H)
+  unfolding ratio ratioBy
+  ratio-opposite n G = ap₂ (λ (Z : ℕ → ℕ → ℕ) (m : ℕ). up (largest n (λ i. size G (Z i)) * m) scale) (λ t i count. coefs-opposite (suc i) count t) (abs-neg H)
 
   share-opposite : (table : Coefficients) (k j : ℕ) → share (negℤ H) table k (getD (map opposite terms) j no-term) ≡ share H table k (getD terms j no-term)
   unfolding share

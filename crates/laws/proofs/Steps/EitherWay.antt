@@ -10,7 +10,7 @@ use lib.IntN.{ℤ, negℤ}
 use lib.ListN.{length, getD, List·getD-map}
 use Rattle.rounding.proofs.Integers.{abs-neg}
 use Rattle.ranges.specs.Range.{tabulate, every}
-use Rattle.model.specs.Step.{no-ball, greatest, ratio, Row, Coefficients, newBall, newRow, stepRow}
+use Rattle.model.specs.Step.{no-ball, greatest, ratioBy, ratio, Row, Coefficients, newBall, newRow, stepRow}
 use Rattle.model.specs.declared.Ball.{Ball}
 use Rattle.model.specs.Sheet.{Verdict, passes, refuses}
 use Rattle.model.specs.Passage.{Advance, moves, stops, question, most-ratio, slow, tolerable, tolerated, advance}
@@ -24,7 +24,7 @@ use Rattle.laws.proofs.Steps.SignOfPowers.{forth, back, coefficients-tu
 
 module _ (terms : List Term) (H : ℤ) (balls : List Ball) where
   ratio-either-way : (n G : ℕ) → ratio terms (negℤ H) n G ≡ ratio terms H n G
-  unfolding ratio
+  unfolding ratio ratioBy
   ratio-either-way n G = rw (abs-neg H)
 
   radius-either-way : (d tail i : ℕ) → newBall (back terms H balls d) d tail i .radius ≡ newBall (forth terms H balls d) d tail i .radius

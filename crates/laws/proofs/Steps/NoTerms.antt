@@ -15,7 +15,7 @@ use Rattle.rounding.proofs.Roundings.{up-is-least}
 use Rattle.ranges.specs.Range.{sum, sumℤ, largest, tabulate, least}
 use Rattle.model.specs.Sheet.{scale, no-term, sheetVerdict, passes, listed, termsOf, startsOf}
 use Rattle.model.specs.LikeTerms.{coefsLike, filter, summed, gathered}
-use Rattle.model.specs.Step.{no-ball, greatest, size, coefs, ratio, majorant, tailAt, degree, coefficient, coefficientsTo, Row, newBall, stepReach, newSpan, newRow, stepRow}
+use Rattle.model.specs.Step.{no-ball, greatest, size, coefs, ratioBy, ratio, majorant, tailAt, degree, coefficient, coefficientsTo, Row, newBall, stepReach, newSpan, newRow, stepRow}
 use Rattle.model.specs.declared.Ball.{Ball}
 use Rattle.model.specs.declared.Span.{Span}
 use Rattle.model.specs.Passage.{moves, question, small, slow, most-ratio, tolerable, tolerated, advance, goOn, follow, placesNeeded, run, passage}
@@ -41,12 +41,12 @@ least-at-once n f h = rw (h, least)
 
 -- ---- one step
 
-no-size : (G target : ℕ) → 0 < G → size [] G target ≡ 0
+no-size : (G target : ℕ) → 0 < G → size G (coefs [] target) ≡ 0
 unfolding size coefs sum
 no-size G target h = rw (mul-zero scale, mul-zero G, up-zero h, up-zero scale-positive)
 
 no-ratio : (H : ℤ) (n : ℕ) {G : ℕ} → 0 < G → ratio [] H n G ≡ 0
-unfolding ratio
+unfolding ratio ratioBy
 no-ratio H n {G} h = rw (largest-zero n (λ i. no-size G (suc i) h), zero-mul) (up-zero scale-positive)
 
 no-tail : (G k : ℕ) → tailAt G 0 k ≡ 0

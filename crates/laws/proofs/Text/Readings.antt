@@ -15,10 +15,12 @@ use lib.ListN.{length, getD, take, replicate, length-append, length-replicate, L
 use borrow.Author.Tests.{lt-leb, eq-eqb}
 use Rattle.ranges.specs.Range.{bytes}
 use Rattle.model.specs.Reading.{Parsed, parsed, fault, return, _>>=_, signedField, start, quantity, term, head, quantities, terms, body, sheet, accepted, readSheetTo, after}
-use Rattle.model.specs.Sheet.{most-bytes, most-quantities, most-steps, most-terms, number, Verdict, passes, _then_, inOrder, headVerdict, quantityVerdict, quantitiesVerdict, startVerdict, termVerdict, termsVerdict, sheetVerdictTo, sheetVerdict, no-quantity, no-term, no-sheet, padded, quantitiesHeld, termsHeld, n-limits, steps-limits, tail-limits, tol-limits, start-limits, radius-limits, terms-limits, to-limits, coef-limits, first-limits, second-limits, from_to_}
+use Rattle.model.specs.Sheet.{most-bytes, most-quantities, most-steps, most-terms, number, Verdict, passes, _then_, inOrder, headVerdict, quantityVerdict, quantitiesVerdict, startVerdict, termVerdict, termsVerdict, sheetVerdictTo, sheetVerdict, no-quantity, no-term, no-sheet, startValue, startBall, startsOf, padded, quantitiesHeld, termsHeld, n-limits, steps-limits, tail-limits, tol-limits, start-limits, radius-limits, terms-limits, to-limits, coef-limits, first-limits, second-limits, from_to_}
+use Rattle.model.specs.Step.{no-ball}
 use Rattle.laws.specs.ReadingMeans.{ZeroPastCounts}
 use Rattle.model.specs.declared.Refusal.{Refusal}
 use Rattle.model.specs.declared.Refusal.the-variants.{Oversized, NoReading}
+use Rattle.model.specs.declared.Ball.{Ball}
 use Rattle.model.specs.declared.Start.{Start}
 use Rattle.model.specs.declared.Start.the-variants.{Reading, Missing}
 use Rattle.model.specs.declared.Quantity.{Quantity}
@@ -27,7 +29,7 @@ use Rattle.model.specs.declared.Terms.{Terms}
 use Rattle.model.specs.declared.Sheet.{Sheet}
 use Rattle.model.specs.declared.Outcome.the-variants.{Accepted, Refused}
 use Rattle.laws.proofs.Text.Verdicts.{refusal-not-passes, in-range, few-quantities, sheet-in-range, both-pass}
-use Rattle.ranges.proofs.Ranges.{below, before-or-past}
+use Rattle.ranges.proofs.Ranges.{below, before-or-past, getD-tabulate}
 use Rattle.laws.proofs.Text.Parsers.{Delivers, delivers, faulty, Yields, Each, yields-return, yields-then, yields-times, yields-end, yields-field, yields-signed, yields-step}
 
 -- ---- the parts of a sheet
@@ -215,3 +217,11 @@ starts-are-readings sheet h i l = reading (getD (sheet .quantities) i no-quantit
     reading : (x : Start) → startVerdict x ≡ passes → (z : ℤ) × (x ≡ Reading z)
     reading (Reading z) e = (z, refl)
     reading Missing e = absurd (refusal-not-passes e)
+
+-- so that the value which a passage starts from is the number that the sheet has there, and never the 0 of a missing one
+pub start-is-read : (sheet : Sheet) → sheetVerdict sheet ≡ passes → (i : ℕ) → i < sheet .head .n →
+    (z : ℤ) × (getD (sheet .quantities) i no-quantity .start ≡ Reading z) × (getD (startsOf sheet) i no-ball .value ≡ z)
+unfolding startsOf startBall startValue
+start-is-read sheet h i l =
+    let read = starts-are-readings sheet h i l in
+    (read .0, read .1, ap (λ (ball : Ball). ball .value) (getD-tabulate (sheet .head .n) (λ i. startBall (getD (sheet .quantities) i no-quantity)) no-ball i l) ∙ ap startValue (read .1))

@@ -5,7 +5,8 @@ use mathlib.Core.Path.{_≡_, refl, ap, _∙_}
 use native.Mathlib.Numerals.{add-one}
 use native.Mathlib.Omega.{arith}
 use Rattle.ranges.specs.Range as range
-use Rattle.ratio.specs.Ratio.{Bounded, sizeBy}
+use Rattle.model.specs.Step as rule
+use Rattle.ratio.specs.Ratio.{sumAt, Bounded}
 use Rattle.ratio.proofs.Balls.{largest-suc}
 use borrow.Author.Needs.{needs}
 use Rattle.ratio.proofs.sizes.largest_size.Statement.{statement}
@@ -16,7 +17,7 @@ one-more : (f : ℕ → ℕ) (i : ℕ) {largest next r : ℕ} → largest ≡ ra
 one-more f i e g h = rw (h, e, g, add-one i, largest-suc i f)
 
 abbrev Inv-loop : tie.InvT-loop
-Inv-loop n reach sums largest₀ i₀ largest i = (largest ≡ range.largest i (sizeBy sums reach)) × (i ≤ n)
+Inv-loop n reach sums largest₀ i₀ largest i = (largest ≡ range.largest i (λ j. rule.size reach (sumAt sums j))) × (i ≤ n)
 
 abbrev μ-loop : tie.MeasureT-loop
 μ-loop n reach sums largest₀ i₀ largest i = n - i
@@ -29,13 +30,13 @@ loop-again : tie.Need-loop-again Inv-loop μ-loop
 loop-again c =
     let turn = c .before .before .before in
     let at-start = turn .before in
-    (one-more (sizeBy (at-start .args .sums .now) (at-start .args .reach)) (turn .loop .i) (turn .loop .inv .0) (c .before .size .ensures) (c .larger .ensures), omega arith)
+    (one-more (λ j. rule.size (at-start .args .reach) (sumAt (at-start .args .sums .now) j)) (turn .loop .i) (turn .loop .inv .0) (c .before .size .ensures) (c .larger .ensures), omega arith)
 
 returns : tie.Need-returns Inv-loop μ-loop
 returns c =
     let at-start = c .before .before in
     let done : c .before .loop .i ≡ at-start .args .n = omega arith in
-    c .before .loop .inv .0 ∙ ap (λ (i : ℕ). range.largest i (sizeBy (at-start .args .sums .now) (at-start .args .reach))) done
+    c .before .loop .inv .0 ∙ ap (λ (i : ℕ). range.largest i (λ j. rule.size (at-start .args .reach) (sumAt (at-start .args .sums .now) j))) done
 
 -- the sums of the target that is asked about
 first : {n i : ℕ} {sums : List ℕ} → Bounded n sums → i < n → Bounded (i + 1) sums

@@ -6,17 +6,18 @@ use native.Mathlib.Omega.{arith}
 use lib.ListN.{getD}
 use Rattle.rounding.specs.Rounding.{up}
 use Rattle.model.specs.Sheet.{scale}
+use Rattle.model.specs.Step as rule
 use Rattle.laws.specs.Bounds.{most-total}
 use Rattle.laws.proofs.Bounds.RatioNumbers.{scaled-sum-fits, greatest-sum-fits, size-of-sums-fits}
-use Rattle.ratio.specs.Ratio.{counts, sumAt, Bounded, Reaching, sizeBy}
+use Rattle.ratio.specs.Ratio.{counts, sumAt, Bounded, Reaching}
 use Rattle.ratio.proofs.Ratios.{first-place}
 use borrow.Author.Needs.{needs}
 use Rattle.ratio.proofs.sizes.size.Statement.{statement}
 use Rattle.ratio.proofs.sizes.size.Tie as tie
 
 -- the definition, by the places of the sums
-size-is : (sums : List ℕ) (G i : ℕ) {without both : ℕ} → without ≡ up (scale * getD sums (counts * i) 0) G → both ≡ up (G * getD sums (counts * i + 2) 0) scale → without + getD sums (counts * i + 1) 0 + both ≡ sizeBy sums G i
-unfolding sizeBy sumAt
+size-is : (sums : List ℕ) (G i : ℕ) {without both : ℕ} → without ≡ up (scale * getD sums (counts * i) 0) G → both ≡ up (G * getD sums (counts * i + 2) 0) scale → without + getD sums (counts * i + 1) 0 + both ≡ rule.size G (sumAt sums i)
+unfolding rule.size sumAt
 size-is sums G i w b = rw (w, b, first-place i)
 
 returns : tie.Need-returns
