@@ -1,6 +1,6 @@
 -- What comes of a sheet's bytes with lent places: with places enough it is document 01's; its rows stand in the buffer and are trusted.
 use Prim.Native.Nat.{ℕ, _*_, _≤_, _<_}
-use mathlib.Core.List.{List}
+use mathlib.Core.List.{List, [], _∷_}
 use mathlib.Core.Path.{_≡_, refl, sym, ap, _∙_}
 use native.Mathlib.Omega.{arith}
 use native.Mathlib.Nat.{le-trans, le-refl}
@@ -12,7 +12,7 @@ use Rattle.model.specs.Rows.{width, places, written, rowsIn}
 use Rattle.enclosure.specs.RowRange.{RowsPrintable}
 use Rattle.model.specs.Passage.{Run, passage, run, refused, placesNeeded, rowsWritten}
 use Rattle.model.specs.Reading.{readSheet}
-use Rattle.model.specs.Sheet.{most-bytes, most-quantities, most-steps, refusedStep, n-limits, headVerdict, no-head, sheetVerdictTo, sheetVerdict, refuses, no-sheet, inRange, ask, within, from_to_, _then_}
+use Rattle.model.specs.Sheet.{most-bytes, most-quantities, most-steps, result, refusedStep, n-limits, headVerdict, no-head, sheetVerdictTo, sheetVerdict, refuses, no-sheet, inRange, ask, within, from_to_, _then_}
 use Rattle.enclosure.specs.Trust.{TrustedOf, SpannedOf, Leaves}
 use Rattle.model.specs.declared.Outcome.{Outcome}
 use Rattle.model.specs.declared.Outcome.the-variants.{Accepted, Refused}
@@ -34,7 +34,7 @@ use Rattle.printing.specs.Pieces.{Printed}
 use Rattle.printing.proofs.Pieces.{printed-whole}
 use Rattle.printing.specs.AnswerLength.{most-answer}
 use Rattle.printing.proofs.AnswerLength.{length-run}
-use Rattle.answer.specs.Answered.{runLent, endedOf, Ran, FrontOf, AnswersAlike}
+use Rattle.answer.specs.Answered.{runLent, endedOf, Ran, summaryOf, FrontOf, AnswersAlike}
 
 -- ---- the sheet that is read
 
@@ -58,11 +58,12 @@ few-quantities sheet = go (readSheet sheet .outcome) refl
 -- ---- by what the sheet is read as
 
 module _ (sheet : List ℕ) (lent : ℕ) where
-  lent-refused : {r : Refusal} {step : ℕ} → readSheet sheet .outcome ≡ Refused r step → runLent sheet lent ≡ refused r step
+  -- a sheet that is refused in reading has that refusal and no row, and any other is run with the places lent
+  pub lent-refused : {r : Refusal} {step : ℕ} → readSheet sheet .outcome ≡ Refused r step → runLent sheet lent ≡ refused r step
   unfolding runLent
   lent-refused e = rw (e, runLent)
 
-  lent-accepted : readSheet sheet .outcome ≡ Accepted → runLent sheet lent ≡ passage (readSheet sheet .sheet) lent
+  pub lent-accepted : readSheet sheet .outcome ≡ Accepted → runLent sheet lent ≡ passage (readSheet sheet .sheet) lent
   unfolding runLent
   lent-accepted e = rw (e, runLent)
 
@@ -223,6 +224,11 @@ pub answer-stands : (sheet : List ℕ) {before after : List ℕ} {count : ℕ} �
 unfolding answer
 answer-stands sheet printed h = printed-whole printed h
 
--- two inputs that are answered alike have one answer
-pub alike-answers : {one other : List ℕ} → AnswersAlike one other → answer one ≡ answer other
-alike-answers a = a .text
+-- the four numbers: result, refused step, quantities, rows
+pub summary-says : (sheet : List ℕ) (lent : ℕ) → let run = runLent sheet lent in summaryOf (endedOf sheet lent) ≡ result (run .outcome) ∷ refusedStep (run .outcome) ∷ readSheet sheet .sheet .head .n ∷ length (run .rows) ∷ []
+unfolding summaryOf endedOf
+summary-says sheet lent = refl
+
+-- two inputs that are answered alike are read alike and have one answer
+pub alike-answers : {one other : List ℕ} → AnswersAlike one other → (readSheet one ≡ readSheet other) × (answer one ≡ answer other)
+alike-answers a = (a .reading, a .text)

@@ -8,9 +8,10 @@ use mathlib.Core.Logic.{_⊎_, inl, inr}
 use mathlib.Core.Path.{_≡_, refl, sym, ap, ap₂, subst, _∙_}
 use native.Mathlib.Nat.{mul-one}
 use native.Mathlib.Omega.{arith}
-use lib.IntN.{ℤ, pos, negsuc, negℤ, natAbs, _*ℤ_, one, *ℤ-one}
+use lib.IntN.{ℤ, pos, negsuc, negℤ, natAbs, _+ℤ_, _*ℤ_, one, *ℤ-one}
 use lib.ListN.{length, getD}
-use lib.Signed.{nonNeg}
+use lib.Signed.{_≤ℤ_, nonNeg}
+use Rattle.ranges.specs.Range.{sumℤ}
 use Rattle.model.specs.Sheet.{scale, termsOf, startsOf, number}
 use Rattle.enclosure.specs.Exact.{State, exactSum}
 use Rattle.model.specs.Passage.{rowsWritten}
@@ -25,7 +26,7 @@ use Rattle.model.specs.declared.Sheet.{Sheet}
 use Rattle.model.specs.declared.Term.{Term}
 use Rattle.ranges.proofs.Ranges.{length-tabulate, getD-tabulate}
 use Rattle.laws.proofs.Passages.RowPlaces.{Quantities}
-use Rattle.clear_rule.specs.Clearance.{certain, foundResult, foundRow, Names, foundNumber}
+use Rattle.clear_rule.specs.Clearance.{weight, certain, foundResult, foundRow, Names, foundNumber}
 use Rattle.clear_rule.specs.Claim.{OpensRun, Answers, Clears, ClearsAllTheWay, EachClear, ClearOf, ClearFrom, Wrote, Said, SaidBy, SaidOf}
 use Rattle.clear_rule.specs.declared.Query.{Query}
 use Rattle.clear_rule.specs.declared.Found.{Found}
@@ -149,6 +150,13 @@ module _ (query : Query) (rows : List Row) where
   unfolding Answers
   none-opens answers = answers
 
+  -- what it is to open a run, and every row of which this is so
+  pub opens-says : {j : ℕ} → OpensRun query rows j → (j + query .run ≤ length rows) × ((i : ℕ) → i < query .run → certain query (getD rows (j + i) no-row) ≡ true)
+  opens-says opens = (opens .counted, opens .certain-each)
+
+  pub opens-asks : {j : ℕ} → j + query .run ≤ length rows → ((i : ℕ) → i < query .run → certain query (getD rows (j + i) no-row) ≡ true) → OpensRun query rows j
+  opens-asks counted each = record { counted = counted; certain-each = each }
+
 -- a number from 1 up is that of the row that is named, and 0 says none
 module _ (n count : ℕ) (buffer : List ℤ) (query : Query) where
   pub said-by-row : (j : ℕ) → SaidBy n count buffer query (pos (suc j)) → Said n count buffer query (At (suc j))
@@ -171,6 +179,12 @@ module _ (n count : ℕ) (buffer : List ℤ) (query : Query) where
       go (Refused r) e of-refusal = absurd (minus-no-row r _ e)
 
 -- ---- a step that is clear all the way
+
+-- an exact state that clears the need, whatever its denominator and the weights: base + the sum of weight × its numbers is at least the need, each times s and
+-- times the denominator
+pub clears-says : {query : Query} {state : State} → Clears query state → (0 < state .denominator) × ((query .need *ℤ pos scale *ℤ pos (state .denominator)) ≤ℤ (query .base *ℤ pos scale *ℤ pos (state .denominator) +ℤ sumℤ (length (state .numerators)) (λ i. getD (query .weights) i (pos 0) *ℤ (pos scale *ℤ getD (state .numerators) i (pos 0)))))
+unfolding weight
+clears-says clears = (clears .rational, clears .enough)
 
 -- the whole step is its fraction 1 ÷ 1
 whole-step : (terms : List Term) (H : ℤ) (K : ℕ) (state : State) → exactSum terms (H *ℤ pos 1) (scale * 1) K state ≡ exactSum terms H scale K state

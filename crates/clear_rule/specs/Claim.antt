@@ -74,9 +74,7 @@ ClearOf sheet query rows found =
 -- So it is from every exact state within the radii that the step of such a row starts from, whether or not the passage leads there.
 unfoldable pub ClearFrom : Sheet → Query → List Row → Found → Type 0
 ClearFrom sheet query rows found =
-    EachClear query rows found (λ j.
-      (state : State) → LiesWithin (startOf (startsOf sheet) rows j) state →
-      ClearsAllTheWay query (termsOf sheet) (sheet .head .step) (getD rows j no-row .degree) state)
+    EachClear query rows found (λ j. (state : State) → LiesWithin (startOf (startsOf sheet) rows j) state → ClearsAllTheWay query (termsOf sheet) (sheet .head .step) (getD rows j no-row .degree) state)
 
 -- A sheet's passage wrote the first `count` rows of a buffer, with some places lent: they are the first so many of its rows. Where it is refused at a
 -- step, its earlier rows are its rows.

@@ -27,6 +27,7 @@ use Rattle.model.specs.declared.Refusal.the-variants.{Oversized, TooLarge}
 use Rattle.model.specs.declared.Outcome.{Outcome}
 use Rattle.model.specs.declared.Outcome.the-variants.{Accepted, Refused}
 use Rattle.stored.proofs.Conversion.{first-passes, comes-out}
+use Rattle.stored.proofs.LentInWords.{lent-refused, lent-short, lent-long}
 use Rattle.ranges.proofs.Ranges.{before-or-past}
 use Rattle.laws.proofs.Text.Readings.{accepted-is-acceptable, refused-is-zeros, long-text-is-oversized, read-from-front}
 use Rattle.ranges.proofs.Lists as lists
@@ -139,19 +140,6 @@ module _ (runs : Sheet → Run) (text : List ℕ) where
   unfolding convertedBy
   by-long e long = rw (e, convertedBy, lt-leb (read-as text .sheet .head .steps) most-steps long)
 
-module _ (text : List ℕ) (places : ℕ) where
-  lent-refused : {r : Refusal} {step : ℕ} → read-as text .outcome ≡ Refused r step → splitLent text places .rows ≡ []
-  unfolding splitLent refused
-  lent-refused e = rw (e, splitLent)
-
-  lent-short : read-as text .outcome ≡ Accepted → read-as text .sheet .head .steps ≤ most-steps → splitLent text places .rows ≡ []
-  unfolding splitLent
-  lent-short e short = rw (e, splitLent, le-leb (read-as text .sheet .head .steps) most-steps short) refl
-
-  lent-long : read-as text .outcome ≡ Accepted → most-steps < read-as text .sheet .head .steps → splitLent text places ≡ passage (firstPart most-steps (read-as text .sheet)) places
-  unfolding splitLent
-  lent-long e long = rw (e, splitLent, lt-leb (read-as text .sheet .head .steps) most-steps long)
-
 -- ---- a stored sheet that was read
 
 no-rows : (rows : List Row) (before : List ℤ) → rows ≡ [] → before ≡ written rows before
@@ -181,7 +169,7 @@ module _ (text : List ℕ) {read : ReadSheet} (is : read ≡ read-as text) (befo
     refused-printed = ap outcomeText told ∙ sym (by-refused _ text (came told))
 
     pub refused-unwritten : before ≡ written (splitLent text (length before) .rows) before
-    refused-unwritten = no-rows _ before (lent-refused text (length before) (came told))
+    refused-unwritten = no-rows _ before (unfold refused in ap (λ (run : Run). run .rows) (lent-refused text (length before) (came told)))
 
     pub refused-early : refusedStep (read .outcome) ≤ suc most-steps
     unfolding refusedStep
@@ -200,7 +188,7 @@ module _ (text : List ℕ) {read : ReadSheet} (is : read ≡ read-as text) (befo
       short-printed = sym (by-short _ text (came told) (rw is at short))
 
       pub short-unwritten : before ≡ written (splitLent text (length before) .rows) before
-      short-unwritten = no-rows _ before (lent-short text (length before) (came told) (rw is at short))
+      short-unwritten = no-rows _ before (ap (λ (run : Run). run .rows) (lent-short text (length before) (came told) (rw is at short)))
 
     module _ (long : most-steps < read .sheet .head .steps) where
       pub long-printed : splitText most-steps (read .sheet) (passage (firstPart most-steps (read .sheet)) (length before)) ≡ convertedLent text (length before)
@@ -219,7 +207,7 @@ module _ (text : List ℕ) (places : ℕ) where
   rows-either P none some = go (read-as text .outcome) refl
     where
       go : (outcome : Outcome) → read-as text .outcome ≡ outcome → P (splitLent text places .rows)
-      go (Refused r step) e = rw (lent-refused text places e) none
+      go (Refused r step) e = unfold refused in rw (lent-refused text places e) none
       go Accepted e =
           ⊎-elim (λ (long : most-steps < read-as text .sheet .head .steps). rw (lent-long text places e long) some) (λ (short : read-as text .sheet .head .steps ≤ most-steps). rw (lent-short text places e short) none) (before-or-past most-steps (read-as text .sheet .head .steps))
 
@@ -276,9 +264,9 @@ pub lent-stands : (places : ℕ) (sheet : List ℕ) {before after : List ℕ} {c
 unfolding ComesOutWith
 lent-stands places sheet enough printed promised fits = rw (printed-whole printed fits) (promised enough)
 
--- two inputs that come out alike come out as one text
-pub alike-converts : {one other : List ℕ} → ConvertsAlike one other → converted one ≡ converted other
-alike-converts a = a .text
+-- two inputs that come out alike are read alike and come out as one text
+pub alike-converts : {one other : List ℕ} → ConvertsAlike one other → (readSheetTo stored-steps one ≡ readSheetTo stored-steps other) × (converted one ≡ converted other)
+alike-converts a = (a .reading, a .text)
 
 -- ---- an input of which the front was read
 

@@ -2,7 +2,7 @@
 -- is used here and each premise is met, so that neither a claim can say less nor a premise ask more than is said.
 use Prim.Native.Nat.{ℕ, zero, suc, _*_, _≤_, _<_}
 use mathlib.Core.List.{List}
-use mathlib.Core.Path.{_≡_, ap, sym, subst, _∙_}
+use mathlib.Core.Path.{_≡_, refl, ap, sym, subst, _∙_}
 use native.Mathlib.Omega.{arith}
 use lib.IntN.{ℤ, pos, natAbs, _-ℤ_, _*ℤ_}
 use lib.ListN.{length, getD}
@@ -14,6 +14,7 @@ use Rattle.model.specs.Passage.{Run}
 use Rattle.model.specs.declared.Ball.{Ball}
 use Rattle.model.specs.declared.Span.{Span}
 use Rattle.model.specs.declared.Sheet.{Sheet}
+use Rattle.model.specs.declared.Term.{Term}
 use Rattle.ranges.proofs.Ranges.{length-tabulate, getD-tabulate}
 use Rattle.enclosure.specs.Exact.{State, exactSum}
 use Rattle.enclosure.specs.Trust.{LiesWithin, LiesBetween, stateAfter, Trusted, TrustedOf, startOf, Spanned, SpannedOf, Leaves}
@@ -87,6 +88,15 @@ module _ (spans : List Span) (n : ℕ) (low high : ℕ → ℤ) (wide : length s
       below : (i : ℕ) → i < n → i < length spans → (pos scale *ℤ getD (state .numerators) i (pos 0)) ≤ℤ (high i *ℤ pos (state .denominator))
       below i h l =
           subst (λ (high : ℤ). (pos scale *ℤ getD (state .numerators) i (pos 0)) ≤ℤ (high *ℤ pos (state .denominator))) (highs i h) (b .below i l)
+
+-- the exact states: the first is the one that is started from, and each next one is the exact sum, at the whole step, of its own degree in the list
+pub state-first : (terms : List Term) (H : ℤ) (degrees : List ℕ) (state : State) → stateAfter terms H degrees state 0 ≡ state
+unfolding stateAfter
+state-first terms H degrees state = refl
+
+pub state-next : (terms : List Term) (H : ℤ) (degrees : List ℕ) (state : State) (j : ℕ) → stateAfter terms H degrees state (suc j) ≡ exactSum terms H scale (getD degrees j 0) (stateAfter terms H degrees state j)
+unfolding stateAfter
+state-next terms H degrees state j = refl
 
 -- ---- the rows in the buffer, and the start
 

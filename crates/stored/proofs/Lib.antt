@@ -3,4 +3,5 @@ pub mod RoundTrip
 pub mod Parts
 pub mod Conversion
 pub mod ComesOutInWords
+pub mod LentInWords
 pub mod Cases
