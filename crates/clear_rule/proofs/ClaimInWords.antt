@@ -8,10 +8,9 @@ use mathlib.Core.Logic.{_⊎_, inl, inr}
 use mathlib.Core.Path.{_≡_, refl, sym, ap, ap₂, subst, _∙_}
 use native.Mathlib.Nat.{mul-one}
 use native.Mathlib.Omega.{arith}
-use lib.IntN.{ℤ, pos, negsuc, negℤ, natAbs, _+ℤ_, _*ℤ_, one, *ℤ-one}
+use lib.IntN.{ℤ, pos, negsuc, negℤ, natAbs, _*ℤ_, one, *ℤ-one}
 use lib.ListN.{length, getD}
-use lib.Signed.{_≤ℤ_, nonNeg}
-use Rattle.ranges.specs.Range.{sumℤ}
+use lib.Signed.{nonNeg}
 use Rattle.model.specs.Sheet.{scale, termsOf, startsOf, number}
 use Rattle.enclosure.specs.Exact.{State, exactSum}
 use Rattle.model.specs.Passage.{rowsWritten}
@@ -26,8 +25,8 @@ use Rattle.model.specs.declared.Sheet.{Sheet}
 use Rattle.model.specs.declared.Term.{Term}
 use Rattle.ranges.proofs.Ranges.{length-tabulate, getD-tabulate}
 use Rattle.laws.proofs.Passages.RowPlaces.{Quantities}
-use Rattle.clear_rule.specs.Clearance.{weight, certain, foundResult, foundRow, Names, foundNumber}
-use Rattle.clear_rule.specs.Claim.{OpensRun, Answers, Clears, ClearsAllTheWay, EachClear, ClearOf, ClearFrom, Wrote, Said, SaidBy, SaidOf}
+use Rattle.clear_rule.specs.Clearance.{certain, foundNumber}
+use Rattle.clear_rule.specs.Claim.{Answers, Clears, ClearsAllTheWay, EachClear, ClearOf, ClearFrom, Wrote, Said, SaidBy, SaidOf}
 use Rattle.clear_rule.specs.declared.Query.{Query}
 use Rattle.clear_rule.specs.declared.Found.{Found}
 use Rattle.clear_rule.specs.declared.Found.the-variants.{At, Nowhere, Refused}
@@ -136,27 +135,6 @@ module _ (sheet : Sheet) (query : Query) (after : List ℤ) (outcome : Outcome) 
   pub own-clears : let rows = rowsIn (sheet .head .n) (rowsWritten sheet outcome) after in ClearOf sheet query rows found × ClearFrom sheet query rows found
   own-clears = (said .clear, said .clear-from)
 
--- a row that is named opens a run, no earlier one does, and where none is said none does
-module _ (query : Query) (rows : List Row) where
-  pub named-opens : (j : ℕ) → Answers query rows (At (suc j)) → OpensRun query rows j
-  unfolding Answers
-  named-opens j answers = answers .0
-
-  pub named-first : (j : ℕ) → Answers query rows (At (suc j)) → (k : ℕ) → k < j → OpensRun query rows k → ⊥
-  unfolding Answers
-  named-first j answers = answers .1
-
-  pub none-opens : Answers query rows Nowhere → (k : ℕ) → OpensRun query rows k → ⊥
-  unfolding Answers
-  none-opens answers = answers
-
-  -- what it is to open a run, and every row of which this is so
-  pub opens-says : {j : ℕ} → OpensRun query rows j → (j + query .run ≤ length rows) × ((i : ℕ) → i < query .run → certain query (getD rows (j + i) no-row) ≡ true)
-  opens-says opens = (opens .counted, opens .certain-each)
-
-  pub opens-asks : {j : ℕ} → j + query .run ≤ length rows → ((i : ℕ) → i < query .run → certain query (getD rows (j + i) no-row) ≡ true) → OpensRun query rows j
-  opens-asks counted each = record { counted = counted; certain-each = each }
-
 -- a number from 1 up is that of the row that is named, and 0 says none
 module _ (n count : ℕ) (buffer : List ℤ) (query : Query) where
   pub said-by-row : (j : ℕ) → SaidBy n count buffer query (pos (suc j)) → Said n count buffer query (At (suc j))
@@ -179,12 +157,6 @@ module _ (n count : ℕ) (buffer : List ℤ) (query : Query) where
       go (Refused r) e of-refusal = absurd (minus-no-row r _ e)
 
 -- ---- a step that is clear all the way
-
--- an exact state that clears the need, whatever its denominator and the weights: base + the sum of weight × its numbers is at least the need, each times s and
--- times the denominator
-pub clears-says : {query : Query} {state : State} → Clears query state → (0 < state .denominator) × ((query .need *ℤ pos scale *ℤ pos (state .denominator)) ≤ℤ (query .base *ℤ pos scale *ℤ pos (state .denominator) +ℤ sumℤ (length (state .numerators)) (λ i. getD (query .weights) i (pos 0) *ℤ (pos scale *ℤ getD (state .numerators) i (pos 0)))))
-unfolding weight
-clears-says clears = (clears .rational, clears .enough)
 
 -- the whole step is its fraction 1 ÷ 1
 whole-step : (terms : List Term) (H : ℤ) (K : ℕ) (state : State) → exactSum terms (H *ℤ pos 1) (scale * 1) K state ≡ exactSum terms H scale K state
@@ -221,21 +193,3 @@ module _ (sheet : Sheet) (query : Query) (rows : List Row) (found : Found) (clai
   pub run-clears-from : (j : ℕ) → found ≡ At (suc j) → (i : ℕ) → i < query .run → (state : State) → LiesWithin (startOf (startsOf sheet) rows (j + i)) state → (u w : ℕ) → 0 < w → u ≤ w → (K : ℕ) → getD rows (j + i) no-row .degree ≤ K → Clears query (exactSum (termsOf sheet) (sheet .head .step *ℤ pos u) (scale * w) K state)
   unfolding ClearFrom ClearsAllTheWay
   run-clears-from j e i h = claim .run j i e h
-
--- ---- an answer's number, and the row that it names
-
--- a row that is named has its own number and the number 0; none has 0 and 0, and a refusal its number and no row
-pub found-at : (row : ℕ) → (foundResult (At row) ≡ 0) × (foundRow (At row) ≡ row)
-unfolding foundResult foundRow
-found-at row = (refl, refl)
-
-pub found-none : (foundResult Nowhere ≡ 0) × (foundRow Nowhere ≡ 0)
-unfolding foundResult foundRow
-found-none = (refl, refl)
-
-pub found-refused : (r : Refusal) → (foundResult (Refused r) ≡ number r) × (foundRow (Refused r) ≡ 0)
-unfolding foundResult foundRow
-found-refused r = (refl, refl)
-
-pub names-says : {found meant : Found} → Names found meant → (foundResult found ≡ foundResult meant) × (foundRow found ≡ foundRow meant)
-names-says names = (names .result-is, names .row-is)

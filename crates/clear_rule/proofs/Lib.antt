@@ -14,5 +14,6 @@ pub mod CertainAtEnd
 -- the claim: that it holds, and that it says no less than its words
 pub mod WholeClaim
 pub mod ClearSpans
+pub mod AnswerInWords
 pub mod ClaimInWords
 pub mod PassageRows
