@@ -8,7 +8,7 @@ use lib.IntN.{ℤ, natAbs}
 use lib.ListN.{length, getD}
 use Rattle.model.specs.Sheet.{most, most-steps, refusedStep, passes, sheetVerdict, termsOf}
 use Rattle.model.specs.LikeTerms.{gathered}
-use Rattle.model.specs.Step.{no-ball, reach, greatest, Row, no-row}
+use Rattle.model.specs.Step.{no-span, no-ball, reach, greatest, Row, no-row}
 use Rattle.model.specs.declared.Ball.{Ball}
 use Rattle.model.specs.Passage.{moves, advance, refused, placesNeeded, passage}
 use Rattle.model.specs.Rows.{width, written}
@@ -103,3 +103,8 @@ pub passage-fits : (sheet : Sheet) (lent : ℕ) → length (passage sheet lent .
 unfolding refused placesNeeded
 passage-fits sheet lent =
     passage-either sheet lent (λ run. length (run .rows) * width (sheet .head .n) ≤ lent) (λ r. omega (arith, zero-mul (width (sheet .head .n)))) (λ e room. le-trans (mul-le-mul-right (width (sheet .head .n)) (rows-of-run sheet .fits)) room)
+
+-- what that range is, in numbers
+pub printable-says : {row : Row} → Printable row → (row .degree ≤ 28) × (((i : ℕ) → i < length (row .balls) → (natAbs (getD (row .balls) i no-ball .value) ≤ 1610612736) × (getD (row .balls) i no-ball .radius ≤ 536870912)) × ((i : ℕ) → i < length (row .spans) → (natAbs (getD (row .spans) i no-span .low) ≤ 2147483648) × (natAbs (getD (row .spans) i no-span .high) ≤ 2147483648)))
+unfolding most
+printable-says p = (p .degree, (λ i h. (p .values i h, p .radii i h), λ i h. (p .lows i h, p .highs i h)))

@@ -16,7 +16,7 @@ use Rattle.input.specs.declared.Turn.the-variants.{More, End, Failed}
 
 -- answers of reads with room for five bytes, and what an input came to
 pub inputs-come-to :
-    (map (λ got. turnOf got 5) (negsuc 0 ∷ pos 0 ∷ pos 1 ∷ pos 5 ∷ []) ≡ Failed ∷ End ∷ More 1 ∷ More 5 ∷ [])
+    (map (λ got. turnOf got 5) (negsuc 0 ∷ negsuc 1 ∷ pos 0 ∷ pos 1 ∷ pos 5 ∷ pos 6 ∷ []) ≡ Failed ∷ Failed ∷ End ∷ More 1 ∷ More 5 ∷ More 5 ∷ [])
     × (map counted (Bytes 5 ∷ Bytes 0 ∷ Unreadable ∷ []) ≡ 5 ∷ 0 ∷ 0 ∷ [])
     × (map readable (Bytes 5 ∷ Bytes 0 ∷ Unreadable ∷ []) ≡ true ∷ true ∷ false ∷ [])
 unfolding turnOf bytesMore counted readable

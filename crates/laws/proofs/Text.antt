@@ -2,4 +2,5 @@
 pub mod Verdicts
 pub mod Parsers
 pub mod Readings
+pub mod LinesInWords
 pub mod DecimalText

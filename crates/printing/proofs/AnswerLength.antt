@@ -127,3 +127,7 @@ row-reached = refl
 outcome-reached : length (outcomeText (Refused RowOutOfRange most-steps)) ≡ most-outcome
 unfolding outcomeText printed bytes decimal decimalBy digit number result refusedStep
 outcome-reached = refl
+
+-- the bound is this number
+pub most-answer-is : most-answer ≡ 132985
+most-answer-is = refl

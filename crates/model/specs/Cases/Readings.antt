@@ -54,6 +54,24 @@ readings =
     ∷ fails (A "1\nto=1\ncoef=-268435456\nfirst=2\n") "3"
     ∷ fails (A "1\nto=1\ncoef=0\nfirst=0\nsecond=1\n") "3"
     ∷ fails (A "1\nto=1\ncoef=0\nfirst=1\nsecond=2\n") "3"
+    -- a line ends in a line feed and in no other byte, a key is spelled as it is, and nothing follows the last line
+    ∷ fails "n=1\tsteps=241\n" "2"
+    ∷ fails "n=1\rsteps=241\n" "2"
+    ∷ fails "N=9\n" "2"
+    ∷ fails (A square & " ") "2"
+    -- a minus before a number that has none is misspelt and not out of range, and only a start has no reading
+    ∷ fails "n=-1\n" "2"
+    ∷ fails "n=1\nsteps=-1\n" "2"
+    ∷ fails "n=1\nsteps=1\nstep=1\ntail=-1\n" "2"
+    ∷ fails "n=1\nsteps=1\nstep=1\ntail=2\ntol=-1\n" "2"
+    ∷ fails (A-from "16777216" "-1") "2"
+    ∷ fails (A-from "16777216" "none") "2"
+    ∷ fails (A-from "" "0") "2"
+    ∷ fails (A "-1\n") "2"
+    ∷ fails (A "1\nto=-1\n") "2"
+    ∷ fails (A "1\nto=1\ncoef=none\n") "2"
+    ∷ fails (A "1\nto=1\ncoef=0\nfirst=-1\n") "2"
+    ∷ fails (A "1\nto=1\ncoef=0\nfirst=1\nsecond=-1\n") "2"
     -- a refused text is the sheet of zeros
     ∷ zeros (A square & "\n") 2
     ∷ []

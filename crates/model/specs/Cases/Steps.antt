@@ -3,10 +3,10 @@ use Prim.Native.String.{_++_ as _&_}
 use mathlib.Core.List.{List, [], _∷_}
 use lib.IntN.{ℤ, pos, negℤ}
 use Rattle.model.specs.Cases.Forms.{Case, prints, opensAt, opens, ends, steps}
-use Rattle.model.specs.Cases.Sheets.{sheetLines, termLines, one, square, several, startLines, two, term, A-terms, A-given, A-by}
+use Rattle.model.specs.Cases.Sheets.{sheetLines, termLines, one, square, several, startLines, two, term, missing, given, A-terms, A-given, A-by}
 use Rattle.model.specs.Step.{Ball, Row}
 use Rattle.model.specs.Passage.{moves, stops}
-use Rattle.model.specs.declared.Refusal.the-variants.{OutOfRange, TooLarge, Intolerable}
+use Rattle.model.specs.declared.Refusal.the-variants.{OutOfRange, NoReading, TooLarge, Intolerable}
 
 -- A's start
 abbrev pub A-start : List Ball
@@ -33,12 +33,13 @@ steps-taken =
     ∷ prints (sheetLines "1" "-262144" "2" "536870912" "-536870912" "0" square) "row=1\ndegree=28\nvalue=-1073741822\nradius=73\nlow=-1073741895\nhigh=71\nresult=0\nat=0\n"
     -- a ratio of a quarter and a hair is rounded up, so that the tail of degree 2 is over the limit
     ∷ opensAt (sheetLines "1" "4194304" "349526" "536870912" "16777216" "0" ("1\n" & termLines "1" "16777217" "1" "1")) 3
-    -- one step by itself: by the gathered terms, back, from another start, refused as a sheet, by its own tolerance
+    -- one step by itself: by the gathered terms, back, from another start, refused as a sheet, by its own tolerance, without a reading though it starts elsewhere
     ∷ steps (A-given (pos 4194304) 349534 (term 1 (pos 268435456) 1 1 ∷ term 1 (negℤ (pos 251658240)) 1 1 ∷ [])) A-start (moves (A-row (pos 22020096)))
     ∷ steps (A-given (negℤ (pos 4194304)) 349534 A-terms) A-start (moves (A-row (pos 13631488)))
     ∷ steps (A-given (pos 4194304) 349534 A-terms) (record { value = pos 536870912; radius = 1 } ∷ []) (stops TooLarge)
     ∷ steps (A-given (pos 4194304) 0 A-terms) A-start (stops OutOfRange)
     ∷ steps (A-given (pos 4194304) 349533 A-terms) A-start (stops Intolerable)
+    ∷ steps (given 1 (pos 4194304) 349534 (missing 0 ∷ []) 0) A-start (stops NoReading)
     -- a term without factors where G is above s, and one of two factors over a step of almost one whole: each part of a size is rounded up, each product by itself, Q before v, and the tail is G's
     ∷ opens (sheetLines "1" "16777216" "16777216" "536870912" "50000000" "3" (one "0" "0")) 1 (pos 66777216) 8472358
     ∷ opens (sheetLines "1" "16777216" "1000000" "536870912" "-20000000" "1000" ("1\n" & termLines "1" "3333333" "1" "1")) 2 (negℤ (pos 16384985)) 349923
