@@ -84,7 +84,7 @@ no-number-none (negsuc n) rest = refl
 -- ---- a line
 
 -- a line, its key apart
-key-apart : (key : String) (z : ℤ) (rest : List ℕ) → printed key z ++ rest ≡ bytes key ++ bytes "=" ++ (decimal z ++ (code "\n" ∷ rest))
+pub key-apart : (key : String) (z : ℤ) (rest : List ℕ) → printed key z ++ rest ≡ bytes key ++ bytes "=" ++ (decimal z ++ (code "\n" ∷ rest))
 unfolding printed bytes
 key-apart key z rest = append-assoc (bytes key ++ bytes "=" ++ decimal z) (bytes "\n") rest ∙ append-assoc (bytes key ++ bytes "=") (decimal z) (code "\n" ∷ rest)
 
@@ -115,7 +115,7 @@ reads-last : {A B : Type 0} {p : Parser A} {m : ℕ} {s : List ℕ} {a : A} (f :
 unfolding return
 reads-last {p = p} {s = s} f only = record { on = λ rest. then-on p (λ a. return (f a)) (s ++ rest) (only .on rest); short = only .short }
 
-flatten-more : {A : Type 0} (all : List (List A)) (last : List A) → flatten (all ++ (last ∷ [])) ≡ flatten all ++ last
+pub flatten-more : {A : Type 0} (all : List (List A)) (last : List A) → flatten (all ++ (last ∷ [])) ≡ flatten all ++ last
 unfolding flatten
 flatten-more [] last = append-nil last
 flatten-more (first ∷ all) last = ap (λ (later : List _). first ++ later) (flatten-more all last) ∙ sym (append-assoc first (flatten all) last)
