@@ -1,14 +1,13 @@
 -- One step of each reading of the definitions, by what stands at the front of the bytes: what a cursor's answer decides.
-use Prim.Native.Nat.{ℕ, zero, suc, _+_, _-_, _*_, _≤_, _<_}
+use Prim.Native.Nat.{ℕ, zero, suc, _+_, _-_, _*_, _<_}
 use Prim.Native.Char.{code}
 use mathlib.Core.Path.{_≡_, refl, sym, ap, _∙_}
-use mathlib.Core.Bool.{Bool, true, false, _&&_}
+use mathlib.Core.Bool.{Bool, true, false}
 use mathlib.Core.List.{List, [], _∷_}
 use mathlib.Core.Option.{some, none}
 use native.Mathlib.Omega.{arith}
 use native.Mathlib.Numerals.{add-one}
-use borrow.Author.Tests.{leb-true, ltb-false, eq-eqb, ne-eqb}
-use lib.Dec.{leb}
+use borrow.Author.Tests.{ltb-false, eq-eqb, ne-eqb}
 use lib.IntN.{ℤ, pos, negsuc, _-ℤ_, +ℤ-idl}
 use lib.Signed.{ltZ}
 use lib.ListN.{length, getD, drop}
@@ -16,6 +15,7 @@ use lib.Seq.{drop-cons, drop-length}
 use Rattle.model.specs.Reading.{Spelled, spelled, wrong, isDigit, digits, natural, negated, signed, after, ended, parsed, fault, ranged}
 use Rattle.model.specs.declared.Refusal.the-variants.{Misspelt, OutOfRange}
 use Rattle.model.specs.Sheet.{most-digits}
+use Rattle.laws.proofs.Text.DecimalText.{digit-range}
 use Rattle.lines.specs.Places.{digit, other, frontDigit}
 
 -- What an answer r is read as by f, where r is a: the definition's value is what a is read as.
@@ -23,14 +23,6 @@ pub read-as : {A B : Type 0} (f : A → B) {r a : A} {m : B} → f r ≡ m → r
 read-as f told is = sym told ∙ ap f is
 
 -- ---- digits
-
-pub digit-range : {b : ℕ} → isDigit b ≡ true → (48 ≤ b) × (b ≤ 57)
-unfolding isDigit
-digit-range {b} h = go (leb 48 b) refl h
-  where
-    go : (low : Bool) → leb 48 b ≡ low → (low && leb b 57) ≡ true → (48 ≤ b) × (b ≤ 57)
-    go true l h = (leb-true 48 b l, leb-true b 57 h)
-    go false l h = absurd (let z : _≡_ {A = ℕ} 0 1 = cc in omega arith)
 
 pub digit-first : {l : List ℕ} {b : ℕ} {m : List ℕ} → l ≡ b ∷ m → isDigit b ≡ true → frontDigit l ≡ digit (b - 48) m
 unfolding frontDigit

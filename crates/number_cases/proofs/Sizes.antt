@@ -17,7 +17,7 @@ use Rattle.printing.specs.Pieces.{Put, Room, lineOf}
 use Rattle.laws.proofs.Text.DecimalText.{length-signed}
 use Rattle.printing.proofs.Pieces.{put-keeps-length}
 use Rattle.lines.specs.Places.{spelling, lineAfter}
-use Rattle.lines.proofs.Spellings.{digit-range}
+use Rattle.laws.proofs.Text.DecimalText.{digit-range}
 
 -- ---- a line
 

@@ -1,6 +1,6 @@
 -- A text that is read is the text of the sheet that it is read as, byte by byte: so each sheet has one text, and the reader takes no other. With `read-printed`
 -- this says which texts are accepted.
-use Prim.Native.Nat.{ℕ, zero, suc, _+_, _-_, _*_, _/_, _%_, _≤_, _<_}
+use Prim.Native.Nat.{ℕ, zero, suc, _+_, _-_, _*_, _/_, _%_, _<_}
 use Prim.Native.Char.{code}
 use Prim.Native.String.{String}
 use mathlib.Core.Path.{_≡_, refl, sym, ap, ap₂, _∙_}
@@ -8,7 +8,7 @@ use mathlib.Core.Bool.{Bool, true, false}
 use mathlib.Core.List.{List, [], _∷_, _++_, map, flatten, append-assoc, append-nil}
 use mathlib.Core.Option.{Option, some, none}
 use native.Mathlib.Omega.{arith}
-use borrow.Author.Tests.{eqb-true, eqb-false, leb-true}
+use borrow.Author.Tests.{eqb-true, eqb-false}
 use lib.Dec.{leb, eqb}
 use lib.IntN.{ℤ, pos, negsuc, natAbs}
 use lib.ListN.{length, getD, replicate, length-append, length-map, List·getD-append, List·getD-map}
@@ -23,9 +23,8 @@ use Rattle.model.specs.declared.Start.the-variants.{Reading}
 use Rattle.model.specs.declared.Sheet.{Sheet}
 use Rattle.model.specs.declared.Outcome.the-variants.{Accepted}
 use Rattle.model.specs.declared.Refusal.the-variants.{Oversized, OutOfRange, NoReading}
-use Rattle.ranges.proofs.EveryLaws.{both-true}
 use Rattle.ranges.proofs.Ranges.{tabulate-is}
-use Rattle.laws.proofs.Text.DecimalText.{decimal-digit, decimal-digits}
+use Rattle.laws.proofs.Text.DecimalText.{decimal-digit, decimal-digits, digit-range}
 use Rattle.laws.proofs.Text.LinesInWords.{line-says, end-says}
 use Rattle.stored.proofs.RoundTrip.{key-apart, flatten-more}
 
@@ -33,11 +32,9 @@ use Rattle.stored.proofs.RoundTrip.{key-apart, flatten-more}
 
 -- a digit more
 digit-more : (value b : ℕ) (text : List ℕ) → 0 < value → isDigit b ≡ true → decimal (pos value) ++ (b ∷ text) ≡ decimal (pos (value * 10 + (b - code "0"))) ++ text
-unfolding isDigit digit
+unfolding digit
 digit-more value b text positive is =
-    let test = both-true (leb (code "0") b) (leb b (code "9")) is in
-    let low : 48 ≤ b = leb-true (code "0") b (test .0) in
-    let high : b ≤ 57 = leb-true b (code "9") (test .1) in
+    let range = digit-range is in
     let front : (value * 10 + (b - code "0")) / 10 ≡ value = omega arith in
     let last : digit ((value * 10 + (b - code "0")) % 10) ≡ b = omega arith in
     sym (ap (λ (front : List ℕ). front ++ text) (decimal-digits (value * 10 + (b - code "0")) (omega arith) ∙ ap₂ (λ (n d : ℕ). decimal (pos n) ++ (d ∷ [])) front last) ∙ append-assoc (decimal (pos value)) (b ∷ []) text)
@@ -73,9 +70,7 @@ natural-comes (b ∷ text) {z} {rest} e = go (isDigit b) refl e
         let here = ends-here 0 text e in
         record { natural-number = here .natural-number; text-is = ap (λ (b : ℕ). b ∷ text) (eqb-true b (code "0") nought) ∙ sym (ap (λ (front : List ℕ). front ++ text) (decimal-digit 0 (omega arith))) ∙ here .text-is }
     by-zero is false nought e =
-        let test = both-true (leb (code "0") b) (leb b (code "9")) (unfold isDigit in is) in
-        let low : 48 ≤ b = leb-true (code "0") b (test .0) in
-        let high : b ≤ 57 = leb-true b (code "9") (test .1) in
+        let range = digit-range is in
         let other = eqb-false b (code "0") nought in
         let positive : 0 < b - code "0" = omega (arith, other) in
         let later = digits-come (most-digits - 1) (b - code "0") text positive e in

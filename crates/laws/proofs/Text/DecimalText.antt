@@ -12,10 +12,12 @@ use native.Mathlib.Omega.{arith}
 use native.Mathlib.Decide.{decLt}
 use lib.IntN.{ℤ, pos, negsuc, natAbs}
 use lib.ListN.{length, getD, length-append, List·getD-append}
-use borrow.Author.Tests.{lt-ltb, le-ltb, le-leb}
+use borrow.Author.Tests.{lt-ltb, le-ltb, le-leb, leb-true}
+use lib.Dec.{leb}
 use Rattle.ranges.specs.Range.{bytes}
 use Rattle.model.specs.Reading.{isDigit}
 use Rattle.model.specs.Answer.{digit, decimalBy, decimal, printed}
+use Rattle.ranges.proofs.EveryLaws.{both-true}
 use Rattle.ranges.proofs.Ranges.{before-or-past}
 
 -- one digit, and one digit more
@@ -83,6 +85,13 @@ pub record Digits (n : ℕ) (text : List ℕ) : Type 0 where
   pub digits : (i : ℕ) → i < length text → isDigit (getD text i 0) ≡ true
   pub some : 0 < length text
   pub no-leading-zero : 0 < n → getD text 0 0 ≢ code "0"
+
+-- a digit is a byte from `0` to `9`
+pub digit-range : {b : ℕ} → isDigit b ≡ true → (48 ≤ b) × (b ≤ 57)
+unfolding isDigit
+digit-range {b} is =
+    let test = both-true (leb (code "0") b) (leb b (code "9")) is in
+    (leb-true (code "0") b (test .0), leb-true b (code "9") (test .1))
 
 digit-is-digit : (n : ℕ) → n < 10 → isDigit (digit n) ≡ true
 unfolding digit isDigit

@@ -3,7 +3,8 @@ use mathlib.Core.Path.{_≡_, _∙_, sym}
 use mathlib.Core.List.{_∷_}
 use denote.Ref.{now}
 use Rattle.lines.specs.Places.{rest, byteRead, digitRead, frontDigit}
-use Rattle.lines.proofs.Spellings.{read-as, digit-range, digit-first, no-digit-first}
+use Rattle.lines.proofs.Spellings.{read-as, digit-first, no-digit-first}
+use Rattle.laws.proofs.Text.DecimalText.{digit-range}
 use borrow.Author.Needs.{needs}
 use Rattle.lines.proofs.cursor.Cursor.digit.Statement.{statement}
 use Rattle.lines.proofs.cursor.Cursor.digit.Tie as tie
