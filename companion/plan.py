@@ -3,21 +3,27 @@ enough."""
 
 from dataclasses import dataclass
 from fractions import Fraction
+from itertools import groupby
 
 import programs
 from answer import Answer
 from clock import Clock
 from description import Description, rows_of
+from drift import drifts
+from entries import Refused
 from query import query
-from sheet import Sheet, Writer
+from sheet import MOST_STEPS, Sheet, Writer
 from subject import all_subjects
 
 
 @dataclass(frozen=True)
 class Plan:
+    """The drifts are for the rows from the first on: of rows without one nothing is called certain."""
+
     description: Description
     sheet: Sheet
     answer: Answer
+    drifts: tuple
     clock: Clock
     subjects: tuple
 
@@ -36,25 +42,42 @@ class Search:
 def plan(description):
     """Runs a description's sheet through the planner."""
     sheet = Writer(description).sheet()
-    answer = programs.plan(sheet.text().encode())
-    return Plan(description, sheet, answer, Clock(description.time), tuple(all_subjects(description, sheet, answer)))
+    return with_answer(description, sheet, programs.plan(sheet.text().encode()))
+
+
+def with_answer(description, sheet, answer):
+    drifted = drifts(description, sheet, answer)
+    subjects = tuple(all_subjects(description, sheet, answer, drifted))
+    return Plan(description, sheet, answer, drifted, Clock(description.time), subjects)
 
 
 def search(plan, need=None, length=None):
     """Asks the proved search of a plan's clearance. A need, in the clearance's unit, and a length of time, in the unit
     of time, take the place of the description's. None where there is nothing to ask."""
-    clearance = plan.description.clearance
+    described, clearance = plan.description, plan.description.clearance
     if clearance is None:
         return None
     need = clearance.need if need is None else need
     if need is None or not plan.answer.rows:
         return None
-    rows = clearance.rows if length is None else rows_of(length, plan.description.time)
-    asked, said = query(plan.description, need, rows)
-    runs, ended = programs.search(plan.sheet.text().encode(), asked)
-    if isinstance(runs, int) or ended != (plan.answer.result, plan.answer.at):
+    rows = clearance.rows if length is None else rows_of(length, described.time)
+    if rows > MOST_STEPS:
+        raise Refused(
+            described.lines.line("clearance", "for"), f"no passage has {rows} rows: {MOST_STEPS} are the most"
+        )
+    asked, said = query(described, need, plan.drifts)
+    certain, ended = programs.search(plan.sheet.text().encode(), asked)
+    if isinstance(certain, int) or ended != (plan.answer.result, plan.answer.at):
         raise programs.Failed(
-            f"the search says {runs} of a passage that ended with {ended}, and the planner's ended with "
+            f"the search says {certain} of a passage that ended with {ended}, and the planner's ended with "
             f"{(plan.answer.result, plan.answer.at)}"
         )
-    return Search(need, rows, tuple(runs), tuple(said))
+    return Search(need, rows, tuple(runs(certain, rows)), tuple(said))
+
+
+def runs(certain, least):
+    """Each run of at least so many rows, one after another, that no longer run holds: its first row and its last."""
+    for _, group in groupby(enumerate(certain), lambda pair: pair[1] - pair[0]):
+        rows = [row for _, row in group]
+        if len(rows) >= least:
+            yield rows[0], rows[-1]

@@ -2,7 +2,6 @@
 search and the second program; and gnuplot, which draws. Nothing here works out a number."""
 
 import fcntl
-import re
 import subprocess
 import sys
 from contextlib import contextmanager
@@ -89,15 +88,15 @@ def plan(sheet):
 
 
 def search(sheet, query):
-    """The runs of rows that are certain to clear the need, as pairs of row numbers, by the proved search, or the number
-    with which it refuses the query; and the result and the step with which the passage ended whose rows it looked
-    through."""
+    """The rows that are certain to clear their needs, by the proved search, or the number with which it refuses the
+    query; and the result and the step with which the passage ended whose rows it looked through."""
     build_search()
-    numbers = [query.base, query.need, query.run, *query.weights]
-    lines = run([SEARCH, *map(str, numbers)], sheet).decode().splitlines()
-    *found, result, at = [[int(number) for number in re.findall(r"-?\d+", line)] for line in lines]
-    runs = found[0][0] if lines[0].startswith("refused=") else [tuple(pair) for pair in found]
-    return runs, (*result, *at)
+    words = [query.base, *query.weights, ":", *query.needs]
+    *found, result, at = (
+        line.split("=") for line in run([SEARCH, *map(str, words)], sheet).decode().splitlines()
+    )
+    refused = [int(number) for key, number in found if key == "refused"]
+    return refused[0] if refused else [int(number) for _, number in found], (int(result[1]), int(at[1]))
 
 
 def second(command, sheet, statuses=(0,)):

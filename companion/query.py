@@ -1,23 +1,26 @@
 """What a description's clearance asks of the proved search, in units. Each rounding is on the safe side: the base down,
-the need up, and where a weight had to be rounded the need higher still, by all that the weight could matter."""
+the need up; the need of each row higher still by what the sheet's rounded step and coefficients can do up to it, and
+where a weight had to be rounded, by all that the weight could matter."""
 
 from dataclasses import dataclass
 from fractions import Fraction
+from itertools import takewhile
 from math import ceil, floor
 
 from entries import Refused
-from units import SCALE, near, shown, with_unit
+from units import SCALE, at_most, near, shown, with_unit
 
-MOST_WEIGHT, MOST_NEED, MOST_RUN = 4 * SCALE, 32 * SCALE, 240
+MOST_WEIGHT, MOST_NEED = 4 * SCALE, 32 * SCALE
 FARTHEST = 1 << 31  # No low or high lies farther from 0 in rows that the search takes: it refuses others with 10.
 
 
 @dataclass(frozen=True)
 class Query:
+    """The needs are for the rows from the first on, one each: of later rows nothing is asked."""
+
     base: int
-    need: int
-    run: int
     weights: tuple
+    needs: tuple
 
 
 def exact_weights(description):
@@ -29,28 +32,34 @@ def exact_weights(description):
     ]
 
 
-def query(description, need, rows):
-    """The query, and each rounding in words."""
+def query(description, need, drifts):
+    """The query, of the rows for which a drift is known, and each rounding in words."""
     clearance, said = description.clearance, []
-    whole = clearance.scale.whole
-    weights = [near(weight * SCALE) for weight in exact_weights(description)]
-    moved = sum(abs(weight * SCALE - units) for weight, units in zip(exact_weights(description), weights))
+    whole, exact = clearance.scale.whole, exact_weights(description)
+    weights = tuple(near(weight * SCALE) for weight in exact)
+    moved = sum(abs(weight * SCALE - units) for weight, units in zip(exact, weights))
     base, wanted = clearance.base / whole * SCALE, need / whole * SCALE
-    asked = Query(floor(base), ceil(wanted + moved * Fraction(FARTHEST, SCALE)), rows, tuple(weights))
-    if asked.base != base:
-        said.append(f"the base is rounded down to {asked.base} units")
-    if asked.need != wanted:
-        said.append(f"the need {with_unit(shown(need), clearance.scale.unit)} is rounded up to {asked.need} units")
+    asked = wanted + moved * Fraction(FARTHEST, SCALE)
+    raised = [sum(abs(weight) * each for weight, each in zip(exact, drift)) for drift in drifts]
+    needs = (ceil(asked + more * SCALE) for more in raised)
+    found = Query(floor(base), weights, tuple(takewhile(lambda each: each <= MOST_NEED, needs)))
+    if found.base != base:
+        said.append(f"the base is rounded down to {found.base} units")
+    if ceil(asked) != wanted:
+        said.append(f"the need {with_unit(shown(need), clearance.scale.unit)} is rounded up to {ceil(asked)} units")
     if moved:
         said.append("a weight had to be rounded, and the need is higher by all that this could matter")
-    check(description, asked)
-    return asked, said
+    if any(raised):
+        most = with_unit(at_most(raised[-1] * whole), clearance.scale.unit)
+        said.append(f"the need is higher by what the sheet's rounded step and coefficients can do, {most} at most")
+    check(description, found, asked)
+    return found, said
 
 
-def check(description, asked):
+def check(description, found, need):
     """A query that the search would refuse is refused here with its line."""
     lines = description.lines
-    for quantity, weight in zip(description.quantities, asked.weights):
+    for quantity, weight in zip(description.quantities, found.weights):
         if abs(weight) > MOST_WEIGHT:
             raise Refused(
                 lines.line("clearance", "weights", quantity.name),
@@ -58,9 +67,7 @@ def check(description, asked):
                 f"{shown(Fraction(weight, SCALE))} for the sheet's wholes, and the search takes 4 at most: give the "
                 "[clearance] a larger 'whole'",
             )
-    if abs(asked.base) > MOST_NEED:
+    if abs(found.base) > MOST_NEED:
         raise Refused(lines.line("clearance", "base"), "the base is past the search's range, 32 wholes")
-    if abs(asked.need) > MOST_NEED:
+    if abs(need) > MOST_NEED:
         raise Refused(lines.line("clearance", "need"), "the need is past the search's range, 32 wholes")
-    if not 1 <= asked.run <= MOST_RUN:
-        raise Refused(lines.line("clearance", "for"), f"{asked.run} rows are past the search's range, 1 to {MOST_RUN}")

@@ -1,11 +1,12 @@
 /*
- * Reads a sheet from standard input, runs its passage, and asks the proved search of its rows where they clear a need:
+ * Reads a sheet from standard input, runs its passage, and asks the proved search of each row whether it is certain to clear
+ * the row's own need:
  *
- *     search BASE NEED RUN WEIGHT..
+ *     search BASE WEIGHT.. : NEED..
  *
- * with a weight for each quantity, all in units. It prints a line `from=ROW to=ROW` for each run of at least RUN certain
- * rows that no longer run holds, in order, or a line `refused=NUMBER` where the query is refused; then the passage's
- * `result` and `at`. Which rows are certain is only asked of planner_first_clear, never worked out here.
+ * with a weight for each quantity and a need for each row from the first on, all in units; of rows without a need nothing is
+ * asked. It prints a line `clear=ROW` for each certain row, or a line `refused=NUMBER` where a query is refused; then the
+ * passage's `result` and `at`. Which rows are certain is only asked of planner_first_clear, never worked out here.
  *
  * The exit status is 0; 64 where the arguments are not understood; 74 where nothing could be read or written.
  */
@@ -13,41 +14,39 @@
 #include <inttypes.h>
 #include <stdio.h>
 #include <stdlib.h>
+#include <string.h>
 #include "planner.h"
 
 enum { NOT_UNDERSTOOD = 64, FAILED = 74 };
 
 struct query {
-    int64_t base, need, run;
-    int64_t weights[PLANNER_MOST_QUANTITIES];
+    int64_t base, needs[PLANNER_MOST_STEPS], weights[PLANNER_MOST_QUANTITIES];
+    size_t quantities, rows;
 };
 
 static uint8_t sheet[PLANNER_SHEET_LENGTH];
 static int64_t rows[PLANNER_ROWS_LENGTH];
 
-/* Asks of the rows from `first`, counted from 0, up to but without `end`. Gives the place of the run's first row after
- * `first`, counted from 1; 0 where there is none; minus the number of a refusal. */
-static int64_t first_clear(size_t n, size_t first, size_t end, const struct query *query, size_t run)
+/* Asks of one row, counted from 0. Gives 1 where it is certain to clear its need; 0 where it is not; minus the number of a
+ * refusal. */
+static int64_t row_clears(size_t n, size_t row, const struct query *query)
 {
-    size_t place = PLANNER_DEGREE_PLACE(n, first);
-    return planner_first_clear(n, end - first, rows + place, PLANNER_ROWS_LENGTH - place, query->weights, query->base,
-                               query->need, run);
+    size_t place = PLANNER_DEGREE_PLACE(n, row);
+    return planner_first_clear(n, 1, rows + place, PLANNER_ROWS_LENGTH - place, query->weights, query->base,
+                               query->needs[row], 1);
 }
 
-/* Prints the runs. A run goes on for as long as one row more makes a run too. */
-static void print_runs(size_t n, size_t count, const struct query *query)
+/* Prints the rows that are certain, up to a refusal. */
+static void print_rows(size_t n, size_t count, const struct query *query)
 {
-    size_t run = (size_t)query->run;
-    int64_t found = first_clear(n, 0, count, query, run);
-    if (found < 0)
-        printf("refused=%" PRId64 "\n", -found);
-    for (size_t next = 0; found > 0; found = first_clear(n, next, count, query, run)) {
-        size_t first = next + (size_t)found - 1;
-        size_t end = first + run;
-        while (end < count && first_clear(n, first, end + 1, query, end + 1 - first) == 1)
-            end++;
-        printf("from=%zu to=%zu\n", first + 1, end);
-        next = end;
+    for (size_t row = 0; row < count && row < query->rows; row++) {
+        int64_t found = row_clears(n, row, query);
+        if (found < 0) {
+            printf("refused=%" PRId64 "\n", -found);
+            return;
+        }
+        if (found > 0)
+            printf("clear=%zu\n", row + 1);
     }
 }
 
@@ -59,15 +58,31 @@ static int is_number(const char *word, int64_t *number)
     return end != word && *end == '\0' && errno == 0;
 }
 
+/* Reads numbers as long as there are any. Gives how many there are, or one more than may be where there are more. */
+static size_t numbers(char **words, int64_t *found, size_t most)
+{
+    size_t count = 0;
+    int64_t number;
+    while (words[count] != NULL && is_number(words[count], &number)) {
+        if (count == most)
+            return most + 1;
+        found[count++] = number;
+    }
+    return count;
+}
+
 static int is_query(int argc, char **argv, struct query *query)
 {
-    if (argc < 5 || argc > 4 + PLANNER_MOST_QUANTITIES || !is_number(argv[1], &query->base) ||
-        !is_number(argv[2], &query->need) || !is_number(argv[3], &query->run))
+    if (argc < 3 || !is_number(argv[1], &query->base))
         return 0;
-    for (int i = 4; i < argc; i++)
-        if (!is_number(argv[i], &query->weights[i - 4]))
-            return 0;
-    return 1;
+    char **words = argv + 2;
+    query->quantities = numbers(words, query->weights, PLANNER_MOST_QUANTITIES);
+    words += query->quantities;
+    if (query->quantities > PLANNER_MOST_QUANTITIES || *words == NULL || strcmp(*words, ":") != 0)
+        return 0;
+    words++;
+    query->rows = numbers(words, query->needs, PLANNER_MOST_STEPS);
+    return query->rows <= PLANNER_MOST_STEPS && words[query->rows] == NULL;
 }
 
 int main(int argc, char **argv)
@@ -75,7 +90,7 @@ int main(int argc, char **argv)
     uint64_t summary[PLANNER_SUMMARY_LENGTH];
     struct query query = {0};
     if (!is_query(argc, argv, &query)) {
-        fputs("Usage: search BASE NEED RUN WEIGHT.. <SHEET\n", stderr);
+        fputs("Usage: search BASE WEIGHT.. : NEED.. <SHEET\n", stderr);
         return NOT_UNDERSTOOD;
     }
     size_t sheet_length = fread(sheet, 1, sizeof sheet, stdin);
@@ -84,11 +99,11 @@ int main(int argc, char **argv)
     planner_run(sheet, sheet_length, rows, PLANNER_ROWS_LENGTH, summary);
     size_t n = summary[PLANNER_QUANTITIES];
     if (n > 0) {
-        if ((size_t)argc != 4 + n) {
+        if (query.quantities != n) {
             fprintf(stderr, "search: the sheet has %zu quantities\n", n);
             return NOT_UNDERSTOOD;
         }
-        print_runs(n, summary[PLANNER_ROWS], &query);
+        print_rows(n, summary[PLANNER_ROWS], &query);
     }
     printf("result=%" PRIu64 "\nat=%" PRIu64 "\n", summary[PLANNER_RESULT], summary[PLANNER_AT]);
     return fflush(stdout) == 0 && !ferror(stdout) ? 0 : FAILED;

@@ -5,6 +5,7 @@ from dataclasses import dataclass
 from fractions import Fraction
 from math import ceil, floor
 
+import wholes
 from clock import length
 from entries import Refused
 from units import SCALE, decimal, near, shown, with_unit
@@ -80,9 +81,9 @@ def in_units(number):
 class Writer:
     """Works out a description's sheet, and says each rounding."""
 
-    def __init__(self, description):
-        self.description = description
-        self.said, self.unanswered_for = [], 0
+    def __init__(self, description, is_trial=False):
+        self.description, self.is_trial = description, is_trial
+        self.said = []
 
     def refuse(self, why, *path):
         raise Refused(self.description.lines.line(*path), why)
@@ -140,7 +141,7 @@ class Writer:
             )
         if step != exact:
             beside = length(time, abs(beside_its_time(time, step)), ceil)
-            self.unanswered(
+            self.say(
                 f"step: {length(time, abs(time.step))}{' back' if step < 0 else ''} are {in_units(exact)} units, written {step}; row "
                 f"{time.steps} stands {beside} or less beside its time"
             )
@@ -192,16 +193,27 @@ class Writer:
 
     def terms(self):
         numbers = self.description.numbers()
-        for quantity in self.description.quantities:
-            for product in quantity.products:
-                exact = coefficient(self.description, quantity, product) * SCALE
-                what = f"{quantity.name}, the rate's '{product.text}'"
-                path = ("quantity", quantity.name, "rate")
-                coef = self.within(near(exact), -MOST_COEF, MOST_COEF, what, *path)
-                if coef != exact:
-                    self.unanswered(f"{what}: {in_units(exact)} units in the sheet, written {coef}")
-                first, second = (*(numbers[name] for name in product.factors), 0, 0)[:2]
-                yield Term(numbers[quantity.name], coef, first, second)
+        for quantity, product in meant(self.description):
+            exact = coefficient(self.description, quantity, product) * SCALE
+            what = f"{quantity.name}, the rate's '{product.text}'"
+            path = ("quantity", quantity.name, "rate")
+            coef = self.within(near(exact), -MOST_COEF, MOST_COEF, what, *path)
+            if coef == 0 and exact != 0:
+                self.refuse(f"{what}: {in_units(exact)} units would be written as 0{self.advice()}", *path)
+            if coef != exact:
+                self.say(f"{what}: {in_units(exact)} units in the sheet, written {coef}")
+            first, second = (*(numbers[name] for name in product.factors), 0, 0)[:2]
+            yield Term(numbers[quantity.name], coef, first, second)
+
+    def advice(self):
+        """Another 'whole' with which the description has a sheet, in words; nothing where none is found."""
+        if self.is_trial:
+            return ""
+        advised = wholes.found(self.description, has_a_sheet)
+        if advised is None:
+            return ""
+        heading, whole = advised
+        return f": 'whole = {shown(whole)}' under [{heading}] would keep it"
 
     def amount(self, quantity, wholes):
         return with_unit(shown(wholes * quantity.scale.whole), quantity.scale.unit)
@@ -209,25 +221,23 @@ class Writer:
     def say(self, words):
         self.said.append(words)
 
-    def unanswered(self, words):
-        """A rounding for which the planner does not answer."""
-        self.said.append(words)
-        self.unanswered_for += 1
-
-    def words(self):
-        """Each rounding in words."""
-        if not self.unanswered_for:
-            return self.said
-        return [
-            *self.said,
-            "the planner does not answer for a step or a coefficient that was rounded: its numbers are those of the "
-            "sheet's equations",
-        ]
-
 
 def beside_its_time(time, step):
     """How far the last row of a sheet with this step stands from where the description has it, in the unit of time."""
     return (Fraction(step, SCALE) * time.scale.whole - time.step) * time.steps
+
+
+def has_a_sheet(description):
+    try:
+        Writer(description, is_trial=True).sheet()
+    except Refused:
+        return False
+    return True
+
+
+def meant(description):
+    """The products of the rates, each with the quantity whose rate it is in, in the order of the sheet's terms."""
+    return [(quantity, product) for quantity in description.quantities for product in quantity.products]
 
 
 def coefficient(description, quantity, product):
@@ -260,9 +270,9 @@ def comparisons(description, sheet):
     yield Fraction(sheet.tol + 1, SCALE) > min(tolerances), "the tolerance is stricter than it need be"
     for quantity, start in zip(quantities, sheet.starts):
         yield from start_comparisons(quantity, start)
-    meant = [(quantity, product) for quantity in quantities for product in quantity.products]
-    yield len(sheet.terms) == len(meant), "the terms are not as many"
-    for (quantity, product), term in zip(meant, sheet.terms):
+    products = meant(description)
+    yield len(sheet.terms) == len(products), "the terms are not as many"
+    for (quantity, product), term in zip(products, sheet.terms):
         words = f"a term of {quantity.name} is another"
         factors = tuple(quantities[number - 1].name for number in (term.first, term.second) if number)
         yield quantities[term.to - 1] is quantity and factors == product.factors, words

@@ -4,14 +4,16 @@ radius and whatever lies above up, whatever lies below down."""
 
 import csv
 import io
+from fractions import Fraction
 from math import ceil, floor
 
 from clock import length
+from drift import shares
 from refusals import ADVICE, MEANING, kept
-from sheet import beside_its_time
-from units import at_least, decimal, near, with_unit
+from units import at_least, at_most, decimal, near, with_unit
 
-OUTWARD = "(rounded outward; a radius has in it what its value was rounded by)"
+OUTWARD = "rounded outward; a radius has in it what its value was rounded by"
+ROUNDED = "the sheet's rounded step and coefficients"
 COLUMNS = ("value", "radius", "at least", "at most", "at least", "at most")
 
 
@@ -67,16 +69,38 @@ def clear_words(plan, search):
     return words
 
 
-def step_words(plan):
-    """That the sheet's rows do not stand at the description's times to the last part of a second, where the step was
-    rounded."""
-    beside = abs(beside_its_time(plan.description.time, plan.sheet.step))
-    if not beside:
+def remarks(plan):
+    """How the tables are to be read."""
+    besides = f", and what {ROUNDED} can do" if any(map(any, plan.drifts)) else ""
+    return [f"({OUTWARD}{besides})", *(f"({words})" for words in unbounded_words(plan))]
+
+
+def unbounded_words(plan):
+    """From when on it is not known what the roundings of the sheet can do."""
+    known = len(plan.drifts)
+    if known == len(plan.answer.rows):
         return []
-    last = plan.description.time.steps
+    begin = plan.clock.text(known)
     return [
-        f"(the sheet's step was rounded: its row {last} stands {length(plan.description.time, beside, ceil)} or less beside its time)"
+        f"from {begin} on, what {ROUNDED} can do is not bounded: rows from {known + 1} on answer for the sheet's equations "
+        "alone, and nothing in them is called certain"
     ]
+
+
+def drift_words(plan):
+    """What the roundings of the sheet can do to each quantity, up to the last row."""
+    described, rows = plan.description, len(plan.answer.rows)
+    if not any(each.moved for each in shares(described, plan.sheet)):
+        return []
+    if not rows:
+        return [f"what {ROUNDED} can do is not known: the passage has no rows"]
+    last = [Fraction(0)] * len(described.quantities) if not plan.drifts else plan.drifts[-1]
+    told = (
+        f"{quantity.name} {with_unit(at_most(drift * quantity.scale.whole), quantity.scale.unit)}"
+        for quantity, drift in zip(described.quantities, last)
+    )
+    until = f"up to row {len(plan.drifts)}, at most"
+    return [f"what {ROUNDED} can do, {until}: {', '.join(told)}; show and draw add it outward", *unbounded_words(plan)]
 
 
 def refusal_words(plan):
@@ -99,7 +123,7 @@ def text(plan, search, subjects, digits=None):
     parts = [[plan.description.title]] if plan.description.title else []
     if plan.answer.rows:
         parts += [table(plan, subject, subject.digits if digits is None else digits) for subject in subjects]
-        parts.append([OUTWARD, *step_words(plan)])
+        parts.append(remarks(plan))
     if search is not None:
         parts.append([*clear_words(plan, search), *(f"({words})" for words in search.said)])
     if plan.answer.result:

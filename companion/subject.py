@@ -1,8 +1,9 @@
-"""What a table or a picture is of: one quantity, or the clearance, row by row in its own unit, exactly as the planner
-has it."""
+"""What a table or a picture is of: one quantity, or the clearance, row by row in its own unit: the planner's numbers,
+exactly, and outward of them what the sheet's rounded step and coefficients can do."""
 
 from dataclasses import dataclass
 from fractions import Fraction
+from itertools import zip_longest
 
 from entries import Refused
 from units import SCALE
@@ -40,11 +41,20 @@ class Subject:
     is_clearance: bool = False
 
 
-def quantity_subject(quantity, start, parts):
-    whole = quantity.scale.whole / SCALE
-    cells = tuple(Cell(part.value * whole, part.radius * whole, part.low * whole, part.high * whole) for part in parts)
-    given = None if start.value is None else at_start(start.value * whole, start.radius * whole)
+def quantity_subject(quantity, start, parts, drifts):
+    """A row for which there is no drift is left as the planner has it."""
+    whole = quantity.scale.whole
+    cells = tuple(
+        widened(part, drift * SCALE, whole / SCALE) for part, drift in zip_longest(parts, drifts, fillvalue=Fraction(0))
+    )
+    given = None if start.value is None else at_start(start.value * whole / SCALE, start.radius * whole / SCALE)
     return Subject(quantity.name, quantity.about, quantity.scale.unit, quantity.digits, quantity.sill, given, cells)
+
+
+def widened(part, drift, whole):
+    return Cell(
+        part.value * whole, (part.radius + drift) * whole, (part.low - drift) * whole, (part.high + drift) * whole
+    )
 
 
 def at_start(value, radius):
@@ -75,10 +85,12 @@ def weighed(base, weights, cells):
     )
 
 
-def all_subjects(description, sheet, answer):
+def all_subjects(description, sheet, answer, drifts):
     """Every quantity in the sheet's order, and the clearance last where the description has one."""
     quantities = [
-        quantity_subject(quantity, start, [row.parts[place] for row in answer.rows])
+        quantity_subject(
+            quantity, start, [row.parts[place] for row in answer.rows], [drift[place] for drift in drifts]
+        )
         for place, (quantity, start) in enumerate(zip(description.quantities, sheet.starts))
     ]
     if description.clearance is None:

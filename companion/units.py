@@ -3,12 +3,13 @@
 import re
 from dataclasses import dataclass
 from fractions import Fraction
-from math import floor
+from math import ceil, floor
 
 SCALE = 1 << 24
 
 # To 64 places: no coefficient of a sheet comes near enough to a half for a later one to matter.
 PI = Fraction(31415926535897932384626433832795028841971693993751058209749445923, 10**64)
+PI_ROUNDED_BY = Fraction(1, 10**60)  # Its part that is left out, at most, and that of any product of a rate with it.
 
 
 @dataclass(frozen=True)
@@ -101,6 +102,14 @@ def shown(number):
 def at_least(number):
     """A number that something is no less than: exactly where nine places suffice, else rounded down."""
     return decimal(number, places(number) if is_short(number) else SHORT, floor)
+
+
+def at_most(number):
+    """A number that something is no more than, as 0.0000034: its first two figures, rounded up."""
+    digits = 0
+    while 0 < number * 10**digits < 10:
+        digits += 1
+    return decimal(number, digits, ceil)
 
 
 def is_short(number):

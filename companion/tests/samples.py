@@ -4,10 +4,8 @@ from functools import cache
 
 import description
 import programs
-from clock import Clock
-from plan import Plan, plan
+from plan import plan, with_answer
 from sheet import Writer
-from subject import all_subjects
 
 SHEETS = programs.ROOT / "sheets"
 
@@ -87,8 +85,7 @@ def edited(*edits):
 
 def plan_of(text, answer):
     read = description.read(text)
-    sheet = Writer(read).sheet()
-    return Plan(read, sheet, answer, Clock(read.time), tuple(all_subjects(read, sheet, answer)))
+    return with_answer(read, Writer(read).sheet(), answer)
 
 
 @cache

@@ -119,7 +119,7 @@ class Writing(Folder):
         )
         sheet = (self.folder / "tide.sheet").read_text()
         self.assertTrue(sheet.startswith("n=3\nsteps=6\nstep=2796203\n"))
-        self.assertIn("the planner does not answer", done.stdout)
+        self.assertIn("what the sheet's rounded step and coefficients can do, up to row 6, at most: rise 0.0000", done.stdout)
         self.expect(0, "other: written", "write", "tide.toml", "other")
         self.assertEqual((self.folder / "other").read_text(), sheet)
         self.assertEqual(self.run_it("write", "tide.toml", "-").stdout, sheet)

@@ -28,7 +28,7 @@ USUAL = {"step": "0.5", "steps": 3, "tail": 2, "start": 1, "good_to": 0, "tolera
 
 def written(**changed):
     writer = Writer(description.read(PLAIN.format(**USUAL | changed)))
-    return writer.sheet(), writer.words()
+    return writer.sheet(), writer.said
 
 
 def refusal(text):
@@ -71,12 +71,30 @@ class Roundings(unittest.TestCase):
             said[2], "x: good to 0.04, 671088.64 units and the 0.40 that the start was moved by, rounded up: 671090"
         )
         self.assertIn("5033164.80 units in the sheet, written 5033165", said[3])
-        self.assertIn("the planner does not answer for a step or a coefficient that was rounded", said[4])
+        self.assertEqual(len(said), 4)
 
-    def test_a_coefficient_that_comes_to_0_stays_a_term_and_is_said(self):
-        sheet, said = written(tolerance="0.125", rate="0.00000001 * x")
-        self.assertEqual(sheet.terms, (Term(1, 0, 1, 0),))
-        self.assertIn("written 0", said[0])
+    def test_a_coefficient_that_would_come_to_0_is_refused_with_the_whole_that_keeps_it(self):
+        line, why = refusal(PLAIN.format(**USUAL | {"rate": "x - 0.00000002 * x"}))
+        self.assertEqual(line, 10)
+        self.assertEqual(
+            why,
+            "x, the rate's '- 0.00000002 * x': -0.34 units would be written as 0: 'whole = 2' under [time] would keep it",
+        )
+        advised = PLAIN.format(**USUAL | {"rate": "x - 0.00000002 * x"}).replace("[time]", "[time]\nwhole = 2")
+        self.assertEqual(Writer(description.read(advised)).sheet().terms, (Term(1, 2 * SCALE, 1, 0), Term(1, -1, 1, 0)))
+        self.assertEqual(written(rate="0 * x")[0].terms, (Term(1, 0, 1, 0),))
+
+    def test_the_whole_of_a_quantity_is_advised_where_times_does_not_help(self):
+        """A larger whole of time takes the other coefficient past 16."""
+        rates = {"rate": "16 * x - 0.00000002"}
+        line, why = refusal(PLAIN.format(**USUAL | rates))
+        self.assertEqual(line, 10)
+        self.assertTrue(why.endswith("would be written as 0: 'whole = 0.5' under [quantity.x] would keep it"), why)
+        advised = PLAIN.format(**USUAL | rates).replace("[quantity.x]", "[quantity.x]\nwhole = 0.5")
+        self.assertEqual(Writer(description.read(advised)).sheet().terms[1].coef, -1)
+        line, why = refusal(PLAIN.format(**USUAL | {"rate": "16 * x - 0.00000002 * x"}))
+        self.assertEqual(line, 10)
+        self.assertTrue(why.endswith("-0.34 units would be written as 0"), why)
 
     def test_no_reading_is_none_and_never_0(self):
         sheet, said = written(start='"none"', tolerance="0.125")
@@ -241,7 +259,7 @@ class RandomDescriptions(unittest.TestCase):
             try:
                 sheet = Writer(read).sheet()
             except Refused as refused:
-                self.assertIn("past the sheet's range", refused.why)
+                self.assertRegex(refused.why, "past the sheet's range|would be written as 0")
                 continue
             taken += 1
             self.assertEqual(parsed(sheet.text()), sheet)

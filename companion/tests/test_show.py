@@ -127,10 +127,12 @@ class Tables(unittest.TestCase):
     def test_the_clearance_has_lows_and_highs_by_the_signs_of_its_weights(self):
         cell = self.plan.subjects[-1].cells[0]
         rise, _, water = self.plan.answer.rows[0].parts
+        [(rise_drift, _, water_drift)] = self.plan.drifts
+        drift = water_drift + rise_drift / 2
         self.assertEqual(cell.value, -1 + Fraction(2 * water.value - rise.value, 2 * SCALE))
-        self.assertEqual(cell.radius, Fraction(2 * water.radius + rise.radius, 2 * SCALE))
-        self.assertEqual(cell.low, -1 + Fraction(2 * water.low - rise.high, 2 * SCALE))
-        self.assertEqual(cell.high, -1 + Fraction(2 * water.high - rise.low, 2 * SCALE))
+        self.assertEqual(cell.radius, Fraction(2 * water.radius + rise.radius, 2 * SCALE) + drift)
+        self.assertEqual(cell.low, -1 + Fraction(2 * water.low - rise.high, 2 * SCALE) - drift)
+        self.assertEqual(cell.high, -1 + Fraction(2 * water.high - rise.low, 2 * SCALE) + drift)
 
     def test_water_enough(self):
         told = "clearance: at least 0.5 m from 08:00 to 08:10, for certain and all the way (row 1)\n(a word)\n"
@@ -163,12 +165,11 @@ class Tables(unittest.TestCase):
             self.assertIn("There are no rows. ", told)
             self.assertNotIn("degree", told)
 
-    def test_the_step_that_was_rounded_is_told(self):
-        self.assertIn(
-            "(the sheet's step was rounded: its row 6 stands 0.001 s or less beside its time)", self.text("water")
-        )
-        self.plan = plan_of(edited(('step = "10 min"', 'step = "15 min"')), parsed(ANSWER))
-        self.assertNotIn("step was rounded", self.text("water"))
+    def test_what_is_outward_is_told(self):
+        told = "(rounded outward; a radius has in it what its value was rounded by{})"
+        self.assertIn(told.format(", and what the sheet's rounded step and coefficients can do"), self.text("water"))
+        self.plan = plan_of(TIDE.replace("m2 * ", "0.5 * ").replace('"10 min"', '"15 min"'), parsed(ANSWER))
+        self.assertIn(told.format(""), self.text("water"))
 
     def test_comma_separated(self):
         told = show.comma_separated(self.plan, self.search, chosen(self.plan.subjects, ["water", "rise"]))
@@ -217,5 +218,5 @@ class Long(unittest.TestCase):
         heading, start, row = show.table(plan, plan.subjects[0], 3)[2:]
         self.assertEqual(len(row), len(heading))
         self.assertEqual(
-            row.split(), ["1", "08:10", "28", "-64.000", "32.000", "-96.000", "-32.000", "-128.000", "128.000"]
+            row.split(), ["1", "08:10", "28", "-64.000", "32.001", "-96.001", "-31.999", "-128.001", "128.001"]
         )
