@@ -1,7 +1,7 @@
 """The gallery beside the sources that its equations come from, as the lines of the table of docs/SOURCES.md. A figure
 that its source prints is typed in as it stands there; one for which the source has a formula is worked out here. What
 the planner says is taken from the stored answers, the true error from the physics. Exits 1 where a true error is beyond
-its radius.
+its radius, or where source 002's methods or estimates do not come out as it says.
 """
 
 import sys
@@ -70,6 +70,14 @@ def adams(sheet, equation, p, x, row):
     return Figure(sheet, place, method.estimate(steps), method.error(steps), row)
 
 
+ADAMS = [
+    adams("logistic", GROWTH, 3, 1, 10),
+    adams("logistic-fine", GROWTH, 5, 1, 10),
+    adams("bell", BELL, 4, 1, 10),
+    adams("bell", BELL, 4, 4, 40),
+    adams("cube", CUBE, 2, 2, 10),
+]
+
 FIGURES = [
     Figure("square", "000, Table 1: t = 0.5, k = 10", "0.000978", "0.000978"),
     Figure("logarithm", "000, Table 2: t = 0.1, k = 10", "0.111E-10", "0.833E-12", 2),
@@ -85,11 +93,7 @@ FIGURES = [
     Figure("cavitating-sphere", "000, (67): R = 1.9, k = 16", SPHERE * geometric(9.5 * 0.1, 16), DOUBLE, 4),
     Figure("logistic", "001, Theorem 1: h = 1/10, T = 1", LOGISTIC, None),
     Figure("logistic-fine", "001, Theorem 1: h = 1/10, T = 1", LOGISTIC, None),
-    adams("logistic", GROWTH, 3, 1, 10),
-    adams("logistic-fine", GROWTH, 5, 1, 10),
-    adams("bell", BELL, 4, 1, 10),
-    adams("bell", BELL, 4, 4, 40),
-    adams("cube", CUBE, 2, 2, 10),
+    *ADAMS,
     Figure("cube", "002, section 3, Remark: p = 3, x = 2", "vanishes", "vanishes", 10),
     Figure("sine-3", "003, section 4.1.1: N = 3, x = 1/2", lagrange(1 / 2, 3), None),
     Figure("sine-5", "003, section 4.1.1: N = 5, x = 1/2", lagrange(1 / 2, 5), None),
@@ -126,6 +130,13 @@ def shown(figure):
 
 def line(cells):
     return f"| {' | '.join(cells)} |"
+
+
+def adams_fails():
+    """Whether an estimate of source 002 is off by more than a hundredth, or a method misses the solution that its Remark says it
+    meets."""
+    off = any(abs(line.bound - line.error) > line.error / 100 for line in ADAMS)
+    return off or any(Adams(CUBE, p, 1 / 10).error(10) > FLOATING_POINT_ERROR / SCALE for p in (3, 4, 5))
 
 
 class Compared:
@@ -165,7 +176,7 @@ def main():
     print(line(["---"] * 5 + ["---:"] * 4 + ["---"]))
     for comparison in compared:
         print(line(comparison.cells()))
-    return 1 if any(comparison.outside() for comparison in compared) else 0
+    return 1 if adams_fails() or any(comparison.outside() for comparison in compared) else 0
 
 
 if __name__ == "__main__":
