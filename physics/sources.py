@@ -133,8 +133,7 @@ def line(cells):
 
 
 def adams_fails():
-    """Whether an estimate of source 002 is off by more than a hundredth, or a method misses the solution that its Remark says it
-    meets."""
+    """Whether an estimate of source 002 is off by more than a hundredth, or a method misses what its Remark says."""
     off = any(abs(line.bound - line.error) > line.error / 100 for line in ADAMS)
     return off or any(Adams(CUBE, p, 1 / 10).error(10) > FLOATING_POINT_ERROR / SCALE for p in (3, 4, 5))
 
