@@ -144,10 +144,40 @@ def brusselator(start, coefs, time):
     return [x, y, x * y - loss, x * x]
 
 
+def nested_sine_rates(x, t):
+    """x' = sin(x * e^(t^2)) / root(t), and the time itself."""
+    return sin(x * exp(t**2)) / sqrt(t), 1
+
+
+def nested_sine(start, coefs, time):
+    """The quantity, and the added ones as they follow from it and the time, at the start too."""
+    x, t = motion(nested_sine_rates, (start[0], start[4]), time)
+    size, angle = exp(t**2) / sqrt(t), x * exp(t**2)
+    return [x, size * sin(angle), size * cos(angle), t * angle, t, 1 / t, exp(-(t**2))]
+
+
+def cavitating_sphere(start, coefs, time):
+    """r^(3/2) is a sum of R^(3/2) and R^(-3/2), by the start's r, r' / r and 1 / R."""
+    radius = 1 / start[2]
+    ratio, slope = 1 + time / radius, start[1] * radius
+    grown, shrunk = (1 + slope) / 2 * ratio**1.5, (1 - slope) / 2 * ratio**-1.5
+    now = radius + time
+    return [start[0] * (grown + shrunk) ** (2 / 3), (grown - shrunk) / (grown + shrunk) / now, 1 / now]
+
+
+def cube(start, coefs, time):
+    """y' = 3 y / x, and 1 / x."""
+    ratio = 1 + start[1] * time
+    return [start[0] * ratio**3, start[1] / ratio]
+
+
 FORMS = {
     "approach-over-sill": approach_over_sill,
     "basin-through-sluice": basin_through_sluice,
+    "bell": lambda start, coefs, time: [1 / (1 + time**2), time / (1 + time**2)],
     "brusselator": brusselator,
+    "cavitating-sphere": cavitating_sphere,
+    "cube": cube,
     "drag-corrected": drag_corrected,
     "euler": harmonic,
     "euler-half": harmonic,
@@ -163,6 +193,7 @@ FORMS = {
     "logistic": logistic,
     "logistic-fine": logistic,
     "mark-at-quay": tide_over_sill,
+    "nested-sine": nested_sine,
     "over-low-water": over_low_water,
     "ship-losing-way": ship_losing_way,
     "simplest": square,

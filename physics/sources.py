@@ -1,13 +1,14 @@
 """The gallery beside the sources that its equations come from, as the lines of the table of docs/SOURCES.md. A figure
 that its source prints is typed in as it stands there; one for which the source has a formula is worked out here. What
 the planner says is taken from the stored answers, the true error from the physics. Exits 1 where a true error is beyond
-its radius.
+its radius, or where source 002's methods or estimates do not come out as it says.
 """
 
 import sys
 from collections import namedtuple
-from math import exp, factorial
+from math import e, exp, factorial
 
+from adams import Adams, Equation
 from physics import FLOATING_POINT_ERROR, SCALE, Gallery, numbers
 
 QUANTITY = 1  # The sources' figures are for this one, or for all together.
@@ -16,6 +17,15 @@ QUANTITY = 1  # The sources' figures are for this one, or for all together.
 def geometric(ratio, degree):
     """Corollary 4 of source 000 where no start is beyond 1, by M times t."""
     return ratio ** (degree + 1) / (1 - ratio)
+
+
+def majorant(t, degree, m, bound, size=1):
+    """Theorem 3 of source 000 for products of m factors, by M and the largest start."""
+    z, partial = 1, 0
+    for k in range(degree + 1):
+        partial += z * t**k
+        z *= ((m - 1) * k + 1) / (k + 1) * bound / (m - 1)
+    return size * ((1 - bound * t) ** (-1 / (m - 1)) - partial)
 
 
 def third_order(h, time, m0, m1, m2, m3):
@@ -36,6 +46,11 @@ def local_errors(x, h):
     return x / h * lagrange(h, 1)
 
 
+BELL = Equation(lambda x, y: -2 * x * y**2, lambda x, y: -4 * x * y, lambda x: 1 / (1 + x**2), 0)
+CUBE = Equation(lambda x, y: 3 * y / x, lambda x, y: 3 / x, lambda x: x**3 / 8, 1)
+GROWTH = Equation(lambda x, y: y - y**2, lambda x, y: 1 - 2 * y, lambda x: 1 / (1 + exp(-x)), 0)
+SPHERE = 3 / 2 * 3 ** (1 / 3)  # Its first r, the largest start.
+DOUBLE = "smaller than double precision can capture"
 LOGISTIC = third_order(1 / 10, 1, 1 / 4, 1, 2, 0)  # f is x - x^2, from 0 to 1.
 
 # The bound and the true error are the source's: text where it prints them, a number where it has a formula. The row is
@@ -48,6 +63,21 @@ def benchmark(sheet, place, error):
     return Figure(sheet, f"004, Table 1: {place}", None, f"{error} relative")
 
 
+def adams(sheet, equation, p, x, row):
+    """Algorithm 5.1 of source 002 with steps of 1/10 to x, an estimate and no bound, and the method's error."""
+    method, steps = Adams(equation, p, 1 / 10), round((x - equation.begin) * 10)
+    place = f"002, Algorithm 5.1: p = {p}, h = 1/10, x = {x}"
+    return Figure(sheet, place, method.estimate(steps), method.error(steps), row)
+
+
+ADAMS = [
+    adams("logistic", GROWTH, 3, 1, 10),
+    adams("logistic-fine", GROWTH, 5, 1, 10),
+    adams("bell", BELL, 4, 1, 10),
+    adams("bell", BELL, 4, 4, 40),
+    adams("cube", CUBE, 2, 2, 10),
+]
+
 FIGURES = [
     Figure("square", "000, Table 1: t = 0.5, k = 10", "0.000978", "0.000978"),
     Figure("logarithm", "000, Table 2: t = 0.1, k = 10", "0.111E-10", "0.833E-12", 2),
@@ -56,8 +86,15 @@ FIGURES = [
     Figure("logarithm", "000, Table 2: t = 0.95, k = 10", "11.376", "0.0277", 19),
     Figure("growing-oscillation", "000, Table 3: t = 0.25, k = 60", geometric(5 / 2 * 0.25, 60), "< 2^-52", 5),
     Figure("growing-oscillation", "000, Table 4: t = 5, 93 steps, k = 53 on average", None, "0.222E-14"),
+    Figure("nested-sine", "000, (61): t = 1.026, k = 7", majorant(0.026, 7, 4, 9), None, 4),
+    Figure("nested-sine", "000, (61): t = 1.0455, k = 12", majorant(0.0455, 12, 4, 9), None, 7),
+    Figure("nested-sine", "000, (41) from x4(1) = e: t = 1.026, k = 7", majorant(0.026, 7, 4, 9 * e, e), None, 4),
+    Figure("cavitating-sphere", "000, (67): R = 1.95, k = 16", SPHERE * geometric(9.5 * 0.05, 16), DOUBLE, 2),
+    Figure("cavitating-sphere", "000, (67): R = 1.9, k = 16", SPHERE * geometric(9.5 * 0.1, 16), DOUBLE, 4),
     Figure("logistic", "001, Theorem 1: h = 1/10, T = 1", LOGISTIC, None),
     Figure("logistic-fine", "001, Theorem 1: h = 1/10, T = 1", LOGISTIC, None),
+    *ADAMS,
+    Figure("cube", "002, section 3, Remark: p = 3, x = 2", "vanishes", "vanishes", 10),
     Figure("sine-3", "003, section 4.1.1: N = 3, x = 1/2", lagrange(1 / 2, 3), None),
     Figure("sine-5", "003, section 4.1.1: N = 5, x = 1/2", lagrange(1 / 2, 5), None),
     Figure("sine-7", "003, section 4.1.1: N = 7, x = 1/2", lagrange(1 / 2, 7), None),
@@ -93,6 +130,12 @@ def shown(figure):
 
 def line(cells):
     return f"| {' | '.join(cells)} |"
+
+
+def adams_fails():
+    """Whether an estimate of source 002 is off by more than a hundredth, or a method misses what its Remark says."""
+    off = any(abs(line.bound - line.error) > line.error / 100 for line in ADAMS)
+    return off or any(Adams(CUBE, p, 1 / 10).error(10) > FLOATING_POINT_ERROR / SCALE for p in (3, 4, 5))
 
 
 class Compared:
@@ -132,7 +175,7 @@ def main():
     print(line(["---"] * 5 + ["---:"] * 4 + ["---"]))
     for comparison in compared:
         print(line(comparison.cells()))
-    return 1 if any(comparison.outside() for comparison in compared) else 0
+    return 1 if adams_fails() or any(comparison.outside() for comparison in compared) else 0
 
 
 if __name__ == "__main__":
