@@ -5,8 +5,10 @@ import ast
 import io
 import os
 import shutil
+import signal
 import subprocess
 import tempfile
+import time
 import unittest
 from contextlib import redirect_stderr
 from pathlib import Path
@@ -114,6 +116,22 @@ class Before(Repository):
         (tools / "rt").unlink()
         done = self.run_it("show", "tide.toml", PATH=str(tools), PLANNER_INSTALL="no")
         self.assertIn("passage: rt, the command of Rattle's toolchain, is not on the PATH", done.stderr)
+
+    def test_an_interrupted_proof_is_no_refusal(self):
+        stand_in(self.folder / "bin", "rt", '#!/bin/sh\n[ "$1" != version ] || exit 0\n: >started\nsleep 20\n')
+        command = [self.folder / "companion" / "passage", "show", "tide.toml"]
+        path = f"{self.folder / 'bin'}:{os.environ['PATH']}"
+        started = subprocess.Popen(
+            command, cwd=self.folder, env=os.environ | {"PATH": path}, stderr=subprocess.PIPE, start_new_session=True
+        )
+        while not (self.folder / "started").exists():
+            time.sleep(0.05)
+        os.killpg(started.pid, signal.SIGINT)
+        said = started.communicate()[1].decode()
+        self.assertEqual(started.returncode, 130, said)
+        self.assertIn("passage: interrupted", said)
+        self.assertNotIn("Traceback", said)
+        self.assertEqual(list((self.folder / "target" / "built").iterdir()), [])
 
     def test_an_older_python_is_told_in_one_line(self):
         command = self.folder / "companion" / "passage"
