@@ -51,22 +51,31 @@ def with_answer(description, sheet, answer):
     return Plan(description, sheet, answer, drifted, Clock(description.time), subjects)
 
 
-def search(plan, need=None, length=None):
-    """Asks the proved search of a plan's clearance. A need, in the clearance's unit, and a length of time, in the unit
+def wanted(description, need=None, length=None):
+    """The need that is asked for, in the clearance's unit, and for how many rows. A need, and a length of time in the unit
     of time, take the place of the description's. None where there is nothing to ask."""
-    described, clearance = plan.description, plan.description.clearance
+    clearance = description.clearance
     if clearance is None:
         return None
     need = clearance.need if need is None else need
-    if need is None or not plan.answer.rows:
+    if need is None:
         return None
-    rows = clearance.rows if length is None else rows_of(length, described.time)
+    rows = clearance.rows if length is None else rows_of(length, description.time)
     if rows > MOST_STEPS:
         raise Refused(
-            described.lines.line("clearance", "for"), f"no passage has {rows} rows: {MOST_STEPS} are the most"
+            description.lines.line("clearance", "for"), f"no passage has {rows} rows: {MOST_STEPS} are the most"
         )
-    asked, said = query(described, need, plan.drifts)
-    certain, ended = programs.search(plan.sheet.text().encode(), asked)
+    return need, rows
+
+
+def search(plan, need=None, length=None):
+    """Asks the proved search of a plan's clearance, for what is wanted. None where there is nothing to ask."""
+    asked = wanted(plan.description, need, length)
+    if asked is None or not plan.answer.rows:
+        return None
+    need, rows = asked
+    questions, said = query(plan.description, need, plan.drifts)
+    certain, ended = programs.search(plan.sheet.text().encode(), questions)
     if isinstance(certain, int) or ended != (plan.answer.result, plan.answer.at):
         raise programs.Failed(
             f"the search says {certain} of a passage that ended with {ended}, and the planner's ended with "

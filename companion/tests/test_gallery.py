@@ -1,12 +1,9 @@
 """The gallery's descriptions, through the planner, the search and the second program."""
 
-import os
 import random
 import subprocess
-import tempfile
 import unittest
 from fractions import Fraction
-from pathlib import Path
 from unittest import mock
 
 import description
@@ -238,20 +235,6 @@ class Programs(unittest.TestCase):
             with self.subTest(words=words):
                 done = subprocess.run([programs.SEARCH, *words.split()], input=sheet, capture_output=True)
                 self.assertEqual((done.returncode, done.stdout), (64, b""))
-
-    def test_a_program_is_fresh_where_no_source_is_newer(self):
-        with tempfile.TemporaryDirectory() as folder:
-            program, source, inner = (Path(folder) / name for name in ("program", "source", "folder/inner"))
-            inner.parent.mkdir()
-            for path, time in ((source, 1), (inner, 1), (program, 2)):
-                path.write_text("")
-                os.utime(path, (time, time))
-            self.assertTrue(programs.is_fresh(program, source, inner.parent))
-            self.assertFalse(programs.is_fresh(Path(folder) / "none", source))
-            for newer in (source, inner):
-                os.utime(newer, (3, 3))
-                self.assertFalse(programs.is_fresh(program, source, inner.parent))
-                os.utime(newer, (1, 1))
 
     def test_a_status_that_is_not_expected_fails(self):
         with self.assertRaises(programs.Failed):

@@ -47,7 +47,10 @@ pub fn printed(stored: &[u8], conversion: &Conversion) -> Vec<u8> {
             ending(*refusal as u64, *at as u64).into_bytes()
         }
         Conversion::Unaltered => stored.to_vec(),
-        Conversion::Split(parts) => parts.each_ref().map(text).join(&b'\n'),
+        Conversion::Split(parts) => {
+            let [first, second] = &**parts;
+            [text(first), text(second)].join(&b'\n')
+        }
     }
 }
 
@@ -88,5 +91,5 @@ fn last_row(sheet: &Sheet, rows: &[i64]) -> Vec<Start> {
 /// Whether question 4 refuses a step from a start.
 fn ends_here(start: &Start) -> bool {
     let size = |value: i64| value.unsigned_abs() + start.radius as u64;
-    start.value.is_some_and(|value| is_too_large(size(value)))
+    start.value.map_or(false, |value| is_too_large(size(value)))
 }

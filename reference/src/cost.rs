@@ -67,7 +67,7 @@ fn with_terms(sheet: &Sheet, count: usize) -> Variant {
 fn with_degree(sheet: &Sheet, degree: usize) -> Variant {
     let longest = |wanted: usize| {
         longest_step_that(sheet, |trial| {
-            first_degree(trial).is_some_and(|degree| degree <= wanted)
+            first_degree(trial).map_or(false, |degree| degree <= wanted)
         })
     };
     let step = (longest(degree - 1) + longest(degree)) / 2;

@@ -16,7 +16,7 @@ pub fn near(n: i64, d: i64) -> i64 {
 /// The least whole number not below `n ÷ d`.
 #[inline]
 pub fn up(n: u64, d: u64) -> u64 {
-    n.div_ceil(d)
+    n / d + u64::from(n % d > 0)
 }
 
 #[cfg(test)]

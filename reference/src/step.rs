@@ -28,7 +28,7 @@ pub struct Row {
 
 impl Row {
     /// The numbers of a row of n quantities, in the order of the lent buffer.
-    pub fn numbers(&self, n: usize) -> impl Iterator<Item = i64> {
+    pub fn numbers(&self, n: usize) -> impl Iterator<Item = i64> + '_ {
         let degree = [self.degree as i64].into_iter();
         let values = self.state.values[..n].iter().copied();
         let radii = self.state.radii[..n].iter().map(|&radius| radius as i64);
@@ -84,7 +84,7 @@ impl<'a> Steps<'a> {
     }
 
     /// |value| + radius of each of the sheet's quantities, which question 4 is asked of.
-    pub fn sizes(&self, state: &State) -> impl Iterator<Item = u64> {
+    pub fn sizes<'b>(&self, state: &'b State) -> impl Iterator<Item = u64> + 'b {
         let n = self.sheet.starts.len();
         let quantities = state.values[..n].iter().zip(&state.radii[..n]);
         quantities.map(|(value, radius)| value.unsigned_abs() + radius)

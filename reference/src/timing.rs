@@ -6,9 +6,9 @@ use crate::generate::clearance::QueryTrial;
 use crate::library::{LINKED, MOST_TEXT, planner_answer, planner_first_clear};
 use crate::rounding::SCALE;
 use crate::sheet::{MOST_PLACES, MOST_QUANTITIES};
-use std::hint::black_box;
 use std::iter::repeat_with;
 use std::time::{Duration, Instant};
+use std::{mem, ptr};
 
 /// The least and the median time of one program on one sheet, or of one search.
 #[derive(Clone, Copy, Debug)]
@@ -23,6 +23,15 @@ fn times(mut each: Vec<Duration>) -> Times {
         least: each[0],
         median: each[each.len() / 2],
     }
+}
+
+/// The same value, of which the compiler knows nothing: what it is worked out from or for is not left out. (The standard
+/// library's own is newer than the Rust that this is to be built with.)
+fn black_box<T>(value: T) -> T {
+    // The copy takes the value's place, which is never dropped.
+    let same = unsafe { ptr::read_volatile(&value) };
+    mem::forget(value);
+    same
 }
 
 fn timed<T>(work: impl FnOnce() -> T) -> Duration {

@@ -80,8 +80,9 @@ fn compare(seed: u64, count: usize) -> io::Result<ExitCode> {
 
 /// Runs random sheets through a program, whose buffers are its own, so that the places of a trial do not matter.
 fn program(arguments: &[String]) -> Ran {
-    let [seed, count, file] = arguments else {
-        return None;
+    let (seed, count, file) = match arguments {
+        [seed, count, file] => (seed, count, file),
+        _ => return None,
     };
     let (seed, count) = (seed.parse().ok()?, count.parse().ok()?);
     let mut rows = vec![0; MOST_PLACES];

@@ -85,8 +85,9 @@ pub fn report(trial: &StoredTrial, [ours, theirs]: &[Converted; 2]) -> io::Resul
 
 /// Runs random stored sheets through a program that converts them.
 fn converter(arguments: &[String]) -> Ran {
-    let [seed, count, file] = arguments else {
-        return None;
+    let (seed, count, file) = match arguments {
+        [seed, count, file] => (seed, count, file),
+        _ => return None,
     };
     let (seed, count) = (seed.parse().ok()?, count.parse().ok()?);
     let mut rows = vec![0; MOST_PLACES];

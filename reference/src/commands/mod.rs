@@ -15,7 +15,7 @@ use std::io::{self, Read};
 use std::process::ExitCode;
 
 /// A command by its name, what it takes, what it does, and how.
-struct Command {
+pub struct Command {
     name: &'static str,
     takes: &'static str,
     does: &'static str,

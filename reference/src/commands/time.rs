@@ -80,9 +80,12 @@ fn least_and_median(time: Times) -> String {
 }
 
 fn cost(rounds: usize, file: &str) -> io::Result<ExitCode> {
-    let Ok(sheet) = read(&std::fs::read(file)?) else {
-        eprintln!("{file}: not a sheet to vary");
-        return Ok(ExitCode::FAILURE);
+    let sheet = match read(&std::fs::read(file)?) {
+        Ok(sheet) => sheet,
+        Err(_) => {
+            eprintln!("{file}: not a sheet to vary");
+            return Ok(ExitCode::FAILURE);
+        }
     };
     println!("microseconds (least of {rounds}), nanoseconds a product: plain Rust; proved");
     for Variant { varied, sheet } in variants(&sheet) {

@@ -89,8 +89,9 @@ impl Outcome {
         };
         for line in self.text.split(|&byte| byte == b'\n') {
             let line = std::str::from_utf8(line).unwrap_or("");
-            let Some((key, number)) = line.split_once('=') else {
-                continue;
+            let (key, number) = match line.split_once('=') {
+                Some(parts) => parts,
+                None => continue,
             };
             let field = match key {
                 "result" => &mut ending.result,

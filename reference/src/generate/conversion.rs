@@ -162,8 +162,9 @@ fn at_the_limit(random: &mut Random) -> Sheet {
     let row_number = turning_row(random, sheet.steps - 1);
     for _ in 0..6 {
         let rows = written(&sheet);
-        let Some(row) = rows.get(row_number - 1) else {
-            break;
+        let row = match rows.get(row_number - 1) {
+            Some(row) => row,
+            None => break,
         };
         let missing = LIMIT + excess - size(row, last);
         if missing == 0 {
@@ -202,8 +203,9 @@ fn at_the_ratio(random: &mut Random) -> Sheet {
     let row_number = turning_row(random, sheet.steps - 1);
     for _ in 0..3 {
         let rows = written(&sheet);
-        let Some(row) = row_number.checked_sub(2).and_then(|place| rows.get(place)) else {
-            break;
+        let row = match row_number.checked_sub(2).and_then(|place| rows.get(place)) {
+            Some(row) => row,
+            None => break,
         };
         let before = size(row, 0) as u64;
         let strongest = strongest_that_passes(&sheet, before);

@@ -38,7 +38,7 @@ pub fn lengthen(random: &mut Random, text: &mut Vec<u8>) {
     let anywhere = random.below(text.len() + 1);
     let place = random.of(&[0, anywhere, text.len()]);
     let missing = length.saturating_sub(text.len());
-    text.splice(place..place, std::iter::repeat_n(filling, missing));
+    text.splice(place..place, std::iter::repeat(filling).take(missing));
 }
 
 /// Puts another number, at or beyond the edge of some range or oddly spelt, into a line: one of the head

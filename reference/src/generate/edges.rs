@@ -69,8 +69,9 @@ pub(super) fn at_the_limit_later(random: &mut Random) -> Sheet {
     let row_number = random.even(1..=sheet.steps - 1) as usize;
     for _ in 0..8 {
         let rows = written(&sheet);
-        let Some(row) = rows.get(row_number - 1) else {
-            break;
+        let row = match rows.get(row_number - 1) {
+            Some(row) => row,
+            None => break,
         };
         let size = row[1 + last].abs() + row[1 + n as usize + last];
         let missing = LIMIT + excess - size;

@@ -9,7 +9,7 @@ pub const MOST_TEXT: usize = header(env!("PLANNER_TEXT_LENGTH"));
 
 #[cfg(planner_linked)]
 mod c {
-    unsafe extern "C" {
+    extern "C" {
         pub fn planner_answer(
             sheet: *const u8,
             sheet_length: usize,

@@ -8,7 +8,7 @@ const _: () = assert!(header(env!("PLANNER_MOST_STEPS")) == *COUNT.end());
 
 #[cfg(planner_linked)]
 mod c {
-    unsafe extern "C" {
+    extern "C" {
         pub fn planner_first_clear(
             n: usize,
             count: usize,

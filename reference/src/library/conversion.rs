@@ -11,7 +11,7 @@ const _: () = assert!(header(env!("PLANNER_STORED_STEPS")) == *STORED_STEPS.end(
 
 #[cfg(planner_linked)]
 mod c {
-    unsafe extern "C" {
+    extern "C" {
         pub fn planner_convert(
             sheet: *const u8,
             sheet_length: usize,

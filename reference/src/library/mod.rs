@@ -1,6 +1,9 @@
 //! The proved planner's functions for C, declared for Rust, for each service in a file of its name, with the sizes that
 //! c/planner.h has. Where the planner is not linked, every one of them gives `None`.
 
+// Older compilers do not ask which names a #[cfg] may have.
+#![allow(unknown_lints, unexpected_cfgs)]
+
 mod answer;
 mod clearance;
 mod conversion;
@@ -23,8 +26,16 @@ const _: () = assert!(header(env!("PLANNER_SCALE")) == SCALE as usize);
 
 /// A size of c/planner.h (see build.rs).
 const fn header(number: &str) -> usize {
-    match usize::from_str_radix(number, 10) {
-        Ok(number) => number,
-        Err(_) => panic!("a size of c/planner.h is not a number"),
+    let digits = number.as_bytes();
+    assert!(!digits.is_empty(), "a size of c/planner.h is missing");
+    let (mut size, mut place) = (0, 0);
+    while place < digits.len() {
+        assert!(
+            digits[place].is_ascii_digit(),
+            "a size of c/planner.h is not a number"
+        );
+        size = 10 * size + (digits[place] - b'0') as usize;
+        place += 1;
     }
+    size
 }

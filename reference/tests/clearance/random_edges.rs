@@ -113,8 +113,9 @@ impl Edges {
     /// Trials that meet two refusals, or one where there are no rows.
     fn meet_order(&mut self, trial: &QueryTrial, answer: FirstClear) {
         let QueryTrial { n, count, .. } = *trial;
-        let FirstClear::Refused(refusal) = answer else {
-            return;
+        let refusal = match answer {
+            FirstClear::Refused(refusal) => refusal,
+            _ => return,
         };
         // With one quantity and no rows only the query is asked.
         let query_refused = first_clear(1, 0, &[], &trial.query) != FirstClear::NoRow;

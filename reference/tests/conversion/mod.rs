@@ -60,8 +60,9 @@ fn long_passage(sheet: &Sheet) -> (Vec<i64>, Result<(), Refused>) {
 
 /// The two parts of a long sheet, which must have its rows and its outcome.
 fn parts(sheet: &Sheet) -> [Sheet; 2] {
-    let Conversion::Split(parts) = conversion(sheet) else {
-        panic!("not split: {sheet:?}");
+    let parts = match conversion(sheet) {
+        Conversion::Split(parts) => parts,
+        _ => panic!("not split: {sheet:?}"),
     };
     let [first, second] = *parts;
     assert_eq!(first.check().and(second.check()), Ok(()));

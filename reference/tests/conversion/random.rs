@@ -84,11 +84,15 @@ impl Met {
         let Refused { refusal, at } = refused;
         let number = refusal as usize;
         self.count(&format!("refused with {number}"), true);
-        let Ok(stored) = stored else {
-            assert_eq!((Err(refusal), at), (stored.clone(), 0));
-            let steps_401 = trial.sheet.split(|&byte| byte == b'\n').nth(1) == Some(b"steps=401");
-            self.count("401 steps", refusal == Refusal::OutOfRange && steps_401);
-            return;
+        let stored = match stored {
+            Ok(stored) => stored,
+            Err(_) => {
+                assert_eq!((Err(refusal), at), (stored.clone(), 0));
+                let steps_401 =
+                    trial.sheet.split(|&byte| byte == b'\n').nth(1) == Some(b"steps=401");
+                self.count("401 steps", refusal == Refusal::OutOfRange && steps_401);
+                return;
+            }
         };
         assert!(stored.steps > FIRST_STEPS);
         if refusal == Refusal::BufferTooShort {
@@ -117,7 +121,7 @@ impl Met {
             Refusal::StepTooLong,
             Refusal::RadiusTooLarge,
         ] {
-            let met = outcome.is_err_and(|refused| refused.refusal == refusal);
+            let met = matches!(outcome, Err(refused) if refused.refusal == refusal);
             self.count(&format!("unaltered, refused with {}", refusal as u8), met);
         }
     }

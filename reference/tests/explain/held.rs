@@ -200,7 +200,7 @@ fn hold_to_the_fastest(sheet: &Sheet, scale: u64, quantity: i64, ratio: u64) {
     let fastest = (1..=n).map(rate).max().unwrap();
     assert_eq!((1..=n).find(|&i| rate(i) == fastest), Some(quantity));
     let length = sheet.step.unsigned_abs();
-    assert_eq!((fastest * length).div_ceil(1 << 24), ratio);
+    assert_eq!((fastest * length + (1 << 24) - 1) >> 24, ratio);
 }
 
 fn hold_to_the_radii(sheet: &Sheet, explanation: &str) {
