@@ -63,7 +63,7 @@ def wanted(description, need=None, length=None):
     rows = clearance.rows if length is None else rows_of(length, description.time)
     if rows > MOST_STEPS:
         raise Refused(
-            description.lines.line("clearance", "for"), f"no passage has {rows} rows: {MOST_STEPS} are the most"
+            description.lines.line("clearance", "for"), f"{rows} rows are past what a passage has, {MOST_STEPS}"
         )
     return need, rows
 

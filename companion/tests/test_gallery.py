@@ -139,7 +139,7 @@ class Searches(unittest.TestCase):
 
     def test_more_rows_than_a_passage_has(self):
         made = planned("tide-over-sill")
-        with self.assertRaisesRegex(Refused, "no passage has 241 rows: 240 are the most"):
+        with self.assertRaisesRegex(Refused, "241 rows are past what a passage has, 240"):
             search(made, Fraction(1), 241 * made.description.time.step)
         self.assertEqual(search(made, Fraction(1), 240 * made.description.time.step).runs, ())
 
