@@ -3,29 +3,30 @@ tried on the description before it is advised."""
 
 from dataclasses import replace
 from fractions import Fraction
+from itertools import chain
 
 from entries import Refused
-from units import shown, unit, with_unit
+from units import SCALE, shown, unit, with_unit
 
 ROUND = (1, 2, 5)
 MOST_TENS = 60
 DAY = 86400
 # Lengths in seconds that people take for a step.
 STEPS = [DAY, 43200, 21600, 14400, 10800, 7200, 3600, 1800, 1200, 900, 600, 300, 240, 180, 120, 60, 30, 20, 15, 10, 5, 2, 1]
-TRIED = 40
+TRIED = 30
 
 
 def larger(number):
-    """Round numbers from a number up."""
+    """Round numbers, from a number upward."""
     found = (Fraction(each) * Fraction(10) ** tens for tens in range(-MOST_TENS, MOST_TENS) for each in ROUND)
-    return [each for each in found if each > number][:TRIED]
+    return [each for each in found if each >= number][:TRIED]
 
 
 def smaller(number):
-    """Round numbers from a number down."""
+    """Round numbers, from a number downward."""
     tens = range(MOST_TENS, -MOST_TENS, -1)
     found = (Fraction(each) * Fraction(10) ** power for power in tens for each in reversed(ROUND))
-    return [each for each in found if each < number][:TRIED]
+    return [each for each in found if each <= number][:TRIED]
 
 
 def rescaled(quantity, whole):
@@ -46,16 +47,12 @@ def with_wholes(description, names, whole):
     return replace(description, quantities=tuple(quantities))
 
 
-def with_time(description, whole=None, step=None):
-    """The description with another 'whole' in [time], or another step, of which there are as many as are needed for the
-    same time."""
+def with_time(description, **changed):
+    """The description with another 'whole' in [time], another step, or other steps."""
     time = description.time
-    if whole is not None:
-        time = replace(time, scale=replace(time.scale, whole=whole))
-    if step is not None:
-        steps = -(-abs(time.step) * time.steps // step)
-        time = replace(time, step=step if time.step > 0 else -step, steps=int(steps))
-    return replace(description, time=time)
+    if "whole" in changed:
+        changed["scale"] = replace(time.scale, whole=changed.pop("whole"))
+    return replace(description, time=replace(time, **changed))
 
 
 def tried(part):
@@ -74,39 +71,59 @@ def faults(writer):
 
 class Adviser:
     """Looks for what serves a description that a writer refuses on a line. What serves mends that line, and no other
-    line is refused that was not refused before."""
+    line is refused that was not refused before. The first is told with which the first step may pass, too."""
 
-    def __init__(self, writer, line):
-        self.description, self.make, self.line = writer.description, type(writer), line
-        self.before = faults(self.make(self.description, advises=False))
+    def __init__(self, writer, line, most_steps):
+        self.description, self.make, self.line = writer.description, type(writer), line or 0
+        self.most_steps = most_steps
+        self.before = faults(self.writer(self.description))
+
+    def writer(self, description):
+        return self.make(description, advises=False)
 
     def serves(self, description):
-        after = faults(self.make(description, advises=False))
-        return (self.line or 0) not in after and after <= self.before
+        after = faults(self.writer(description))
+        return self.line not in after and after <= self.before
+
+    def words(self, *options):
+        """The words of the best of the options, each a changed description and what to say of it."""
+        words = ""
+        for changed, told in chain(*options):
+            if self.serves(changed):
+                words = words or f": {told} would serve"
+                if self.writer(changed).starts_well():
+                    return f": {told} would serve"
+        return words
 
     def quantity(self, quantity, wholes):
-        """Which 'whole' serves for a quantity, or for all in its unit; nothing where none does."""
+        """Another 'whole' for a quantity, or for all in its unit."""
         alike = {each.name for each in self.description.quantities if each.scale == quantity.scale}
-        for names, of in (({quantity.name}, quantity.name), (alike, f"every quantity in {quantity.scale.unit}")):
+        told = f"every quantity in {quantity.scale.unit}"
+        for names, of in (({quantity.name}, quantity.name), (alike, told)):
             for whole in wholes:
-                if self.serves(with_wholes(self.description, names, whole)):
-                    return f": 'whole = {shown(whole)}' for {of} would serve"
-        return ""
+                yield with_wholes(self.description, names, whole), f"'whole = {shown(whole)}' for {of}"
 
     def time(self, wholes):
-        """Which 'whole' serves in [time]; nothing where none does."""
+        """Another 'whole' in [time]."""
         for whole in wholes:
-            if self.serves(with_time(self.description, whole)):
-                return f": 'whole = {shown(whole)}' in [time] would serve"
-        return ""
+            yield with_time(self.description, whole=whole), f"'whole = {shown(whole)}' in [time]"
 
-    def step(self):
-        """Which shorter step serves; nothing where none does. Its steps end with the time, where it can be so."""
+    def step(self, wholes=()):
+        """A shorter step, for the same time where that can be; with another 'whole' in [time] where some are given."""
         time = self.description.time
-        length = abs(time.step) * time.steps
-        found = [step for step in step_lengths(time) if self.serves(with_time(self.description, step=step))]
-        found = [step for step in found if (length / step).denominator == 1] or found
-        return f": a shorter step, 'step = {step_text(time, found[0])}', would serve" if found else ""
+        past = abs(time.step) * time.steps
+        lengths = sorted(step_lengths(time), key=lambda step: ((past / step).denominator != 1, -step))
+        for step in lengths:
+            count = -(-past // step)
+            told = f"a shorter step, 'step = {step_text(time, step)}',"
+            if count > self.most_steps:
+                told += f" of which a sheet has {self.most_steps},"
+            changed = {"step": step if time.step > 0 else -step, "steps": int(min(count, self.most_steps))}
+            if not wholes:
+                yield with_time(self.description, **changed), told
+            for whole in wholes:
+                more = f"{told} with 'whole = {shown(whole)}' in [time]"
+                yield with_time(self.description, whole=whole, **changed), more
 
 
 def step_lengths(time):
@@ -127,6 +144,11 @@ def step_text(time, step):
     return f'"{sign}{seconds / unit(name).size} {name}"'
 
 
-def amount(quantity, wholes):
-    """A number of wholes in a quantity's own unit."""
-    return with_unit(shown(wholes * quantity.scale.whole), quantity.scale.unit)
+def search_range(clearance, asked, most):
+    """The search's range for a base and a need, in the clearance's unit, and which 'whole' serves. Less than the most by
+    a whole leaves room for every rounding."""
+    scale = clearance.scale
+    end = with_unit(shown(scale.whole * most / SCALE), scale.unit)
+    farthest = max(abs(asked.base), abs(asked.need)) * scale.whole
+    whole = next(whole for whole in larger(scale.whole) if farthest <= whole * (most - SCALE))
+    return f"-{end} to {end}: 'whole = {shown(whole)}' in [clearance] would serve"

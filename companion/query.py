@@ -5,6 +5,7 @@ from dataclasses import dataclass
 from fractions import Fraction
 from math import ceil, floor
 
+from advice import search_range
 from entries import Refused
 from units import SCALE, near, shown, with_unit
 
@@ -58,9 +59,10 @@ def check(description, asked):
                 f"{shown(Fraction(weight, SCALE))} for the sheet's wholes, and the search takes 4 at most: give the "
                 "[clearance] a larger 'whole'",
             )
+    taken = search_range(description.clearance, asked, MOST_NEED)
     if abs(asked.base) > MOST_NEED:
-        raise Refused(lines.line("clearance", "base"), "the base is past the search's range, 32 wholes")
+        raise Refused(lines.line("clearance", "base"), f"the base is past the search's range, {taken}")
     if abs(asked.need) > MOST_NEED:
-        raise Refused(lines.line("clearance", "need"), "the need is past the search's range, 32 wholes")
+        raise Refused(lines.line("clearance", "need"), f"the need is past the search's range, {taken}")
     if not 1 <= asked.run <= MOST_RUN:
         raise Refused(lines.line("clearance", "for"), f"{asked.run} rows are past the search's range, 1 to {MOST_RUN}")

@@ -3,15 +3,18 @@ whether a sheet that was read back says what the description means."""
 
 from dataclasses import dataclass
 from fractions import Fraction
+from functools import partial
 from math import ceil, floor
 
+from advice import Adviser, larger, smaller
 from clock import length
 from entries import Refused
 from units import SCALE, decimal, near, shown, with_unit
 
-LIMIT = 32 * SCALE
+MOST_WHOLES = 32
+LIMIT = MOST_WHOLES * SCALE
 MOST_QUANTITIES, MOST_STEPS, MOST_TERMS = 8, 240, 32
-MOST_STEP, MOST_COEF = SCALE, 16 * SCALE
+MOST_STEP, MOST_COEF, MOST_RATIO = SCALE, 16 * SCALE, SCALE // 2
 FINEST_PART = 1000  # Of a step, by no more than which a rounded step may move a row from its time.
 
 
@@ -78,20 +81,46 @@ def in_units(number):
 
 
 class Writer:
-    """Works out a description's sheet, and says each rounding."""
+    """Works out a description's sheet, and says each rounding. What it refuses it advises on, unless it is itself on
+    trial."""
 
-    def __init__(self, description):
-        self.description = description
+    def __init__(self, description, advises=True):
+        self.description, self.advises = description, advises
         self.said, self.unanswered_for = [], 0
 
     def refuse(self, why, *path):
         raise Refused(self.description.lines.line(*path), why)
 
+    def adviser(self, *path):
+        return Adviser(self, self.description.lines.line(*path), MOST_STEPS)
+
     def within(self, number, least, most, what, *path):
-        """A number of the sheet, which is refused outside its range."""
-        if not least <= number <= most:
-            self.refuse(f"{what}: {number} units are past the sheet's range, {least} to {most}", *path)
-        return number
+        """A coefficient of the sheet, which is refused outside its range. It is for each whole of time and of its own
+        quantity: so a smaller one of the first serves, or a larger one of the second."""
+        if least <= number <= most:
+            return number
+        size = Fraction(near(Fraction(number, SCALE) * 10**6), 10**6)
+        told = f"{what} is {shown(size)} for the sheet's wholes, and a sheet takes {most // SCALE} at most"
+        if not self.advises:
+            return self.refuse(told, *path)
+        adviser, time = self.adviser(*path), self.description.time
+        quantity = next(each for each in self.description.quantities if each.name == path[1])
+        finer = smaller(time.scale.whole)
+        options = adviser.time(finer), adviser.quantity(quantity, larger(quantity.scale.whole)), adviser.step(finer[:9])
+        return self.refuse(told + adviser.words(*options), *path)
+
+    def past(self, quantity, entry, wholes, least, most):
+        """Refuses a number of a quantity that is past its range, in the quantity's own unit."""
+        path = ("quantity", quantity.name, entry)
+        told = f"{quantity.name}, {entry}: {self.amount(quantity, wholes)}"
+        if least <= wholes <= most:
+            told += " with what the start is moved by"
+        told += f" is past the sheet's range, {self.amount(quantity, least)} to {self.amount(quantity, most)}"
+        if self.advises:
+            adviser, whole = self.adviser(*path), quantity.scale.whole
+            wholes = smaller(whole) if wholes < least and least > 0 else larger(whole)
+            told += adviser.words(adviser.quantity(quantity, wholes))
+        self.refuse(told, *path)
 
     def sheet(self):
         described = self.description
@@ -100,10 +129,27 @@ class Writer:
             self.refuse(f"'{extra}' is the ninth quantity, and a sheet has eight at most", "quantity", extra)
         steps, step, tail, tol = self.steps(), self.step(), described.tail, self.tol()
         starts = tuple(self.start(quantity) for quantity in described.quantities)
+        self.check_radii(starts, tol)
         terms = tuple(self.terms())
         if len(terms) > MOST_TERMS:
             self.refuse(f"the rates have {len(terms)} products, and a sheet has {MOST_TERMS} terms at most", "quantity")
         return Sheet(steps, step, tail, tol, starts, terms)
+
+    def parts(self):
+        """What a sheet is made of, each to be worked out by itself, so that every part's refusal is met."""
+        starts = [partial(self.start, quantity) for quantity in self.description.quantities]
+        return [self.steps, self.step, self.tol, *starts, self.sheet_radii, lambda: list(self.terms())]
+
+    def sheet_radii(self):
+        self.check_radii([self.start(quantity) for quantity in self.description.quantities], self.tol())
+
+    def starts_well(self):
+        """Whether the planner's questions 4 and 5 let the first step pass; not where there is no sheet."""
+        try:
+            sheet = self.sheet()
+        except Refused:
+            return False
+        return largest_size(sheet) <= LIMIT and ratio(sheet) <= MOST_RATIO
 
     def steps(self):
         steps = self.description.time.steps
@@ -126,15 +172,15 @@ class Writer:
         if step == 0 or abs(step) > MOST_STEP:
             fault = "shorter than a unit" if step == 0 else "longer than the whole"
             self.refuse(
-                f"a step of {with_unit(shown(abs(time.step)), time.scale.unit)} is {fault} of the sheet's time: choose another "
-                f"'whole' in [time] than {with_unit(shown(time.scale.whole), time.scale.unit)}",
+                f"a step of {with_unit(shown(abs(time.step)), time.scale.unit)} is {fault} of the sheet's time, "
+                f"{with_unit(shown(time.scale.whole / (SCALE if step == 0 else 1)), time.scale.unit)}{self.step_advice(step)}",
                 "time",
                 "step",
             )
         if abs(beside_its_time(time, step)) * FINEST_PART > abs(time.step):
             self.refuse(
                 f"the {in_units(abs(exact))} units of a step cannot be rounded without moving row {time.steps} by more than a "
-                "thousandth of a step: choose a smaller 'whole' in [time]",
+                f"thousandth of a step{self.step_advice(step)}",
                 "time",
                 "step",
             )
@@ -146,14 +192,25 @@ class Writer:
             )
         return step
 
+    def step_advice(self, step):
+        """What serves a step that is too long for the sheet's time, or too short."""
+        if not self.advises:
+            return ""
+        adviser, time = self.adviser("time", "step"), self.description.time
+        if abs(step) > MOST_STEP:
+            return adviser.words(adviser.time(larger(abs(time.step))), adviser.step())
+        return adviser.words(adviser.time(smaller(time.scale.whole)))
+
     def tol(self):
         """The least tolerance, rounded down: the sheet has one for all quantities."""
         given = [quantity for quantity in self.description.quantities if quantity.tolerance is not None]
         if not given:
             self.refuse("no quantity has a tolerance, the largest radius that a row may have", "quantity")
-        strictest = min(given, key=lambda quantity: quantity.tolerance)
+        strictest = self.strictest()
         exact = strictest.tolerance * SCALE
-        tol = self.within(floor(exact), 1, LIMIT, "tolerance", "quantity", strictest.name, "tolerance")
+        tol = floor(exact)
+        if not 1 <= tol <= LIMIT:
+            self.past(strictest, "tolerance", strictest.tolerance, Fraction(1, SCALE), MOST_WHOLES)
         if tol != exact:
             self.say(
                 f"tol: {self.amount(strictest, strictest.tolerance)} of {strictest.name} are {in_units(exact)} units, "
@@ -166,19 +223,42 @@ class Writer:
                 )
         return tol
 
+    def strictest(self):
+        """The quantity whose tolerance is the sheet's."""
+        given = [quantity for quantity in self.description.quantities if quantity.tolerance is not None]
+        return min(given, key=lambda quantity: quantity.tolerance)
+
+    def check_radii(self, starts, tol):
+        """Refuses a start that is less certain than a row may be: no step makes a radius smaller."""
+        strictest = self.strictest()
+        for quantity, start in zip(self.description.quantities, starts):
+            if start.radius > tol:
+                allowed = self.amount(strictest, strictest.tolerance)
+                if quantity is not strictest:
+                    allowed += f" of {strictest.name}, the strictest, which for {quantity.name} is {self.amount(quantity, Fraction(tol, SCALE))}"
+                self.refuse(
+                    f"{quantity.name}, good_to: {self.amount(quantity, quantity.good_to)} ({start.radius} units) is more than the "
+                    f"sheet's tolerance, {allowed} ({tol} units), and no step would pass: take a better reading, or allow a "
+                    "larger tolerance if the ship can bear it",
+                    "quantity",
+                    quantity.name,
+                    "good_to",
+                )
+
     def start(self, quantity):
         name = quantity.name
-        path = ("quantity", name)
         good_to = quantity.good_to * SCALE
         if quantity.start is None:
             self.say(
                 f"{name}: there is no reading, written none; the planner refuses the sheet with 4 until there is one"
             )
-            return Start(None, self.within(ceil(good_to), 0, LIMIT, f"{name}, good_to", *path, "good_to"))
+            return Start(None, self.radius(quantity, 0))
         exact = quantity.start * SCALE
-        value = self.within(near(exact), -LIMIT, LIMIT, f"{name}, start", *path, "start")
+        value = near(exact)
+        if abs(value) > LIMIT:
+            self.past(quantity, "start", quantity.start, -MOST_WHOLES, MOST_WHOLES)
         moved = abs(value - exact)
-        radius = self.within(ceil(good_to + moved), 0, LIMIT, f"{name}, good_to", *path, "good_to")
+        radius = self.radius(quantity, moved)
         if moved:
             self.say(
                 f"{name}: the start {self.amount(quantity, quantity.start)} is {in_units(exact)} units, written {value}"
@@ -189,6 +269,13 @@ class Writer:
                 f"{name}: good to {self.amount(quantity, quantity.good_to)}, {in_units(good_to)} units{besides}, rounded up: {radius}"
             )
         return Start(value, radius)
+
+    def radius(self, quantity, moved):
+        """How good a start is, and what it was moved by, rounded up."""
+        radius = ceil(quantity.good_to * SCALE + moved)
+        if radius > LIMIT:
+            self.past(quantity, "good_to", quantity.good_to, 0, MOST_WHOLES)
+        return radius
 
     def terms(self):
         numbers = self.description.numbers()
@@ -228,6 +315,26 @@ class Writer:
 def beside_its_time(time, step):
     """How far the last row of a sheet with this step stands from where the description has it, in the unit of time."""
     return (Fraction(step, SCALE) * time.scale.whole - time.step) * time.steps
+
+
+def largest_size(sheet):
+    """The largest start with its radius, without its sign, in units."""
+    return max(abs(start.value or 0) + start.radius for start in sheet.starts)
+
+
+def ratio(sheet):
+    """The ratio of a sheet's first step, by docs/SHEET.md. It serves to try what is advised; what is refused is the
+    planner's to say."""
+    scale = max(SCALE, largest_size(sheet))
+    like = {}
+    for term in sheet.terms:
+        key = term.to, *sorted((term.first, term.second))
+        like[key] = like.get(key, 0) + term.coef
+    sizes = {}
+    for (to, *factors), coef in like.items():
+        sizes.setdefault(to, [0, 0, 0])[sum(factor > 0 for factor in factors)] += abs(coef)
+    largest = max((-(-SCALE * none // scale) + one + -(-scale * two // SCALE) for none, one, two in sizes.values()), default=0)
+    return -(-largest * abs(sheet.step) // SCALE)
 
 
 def coefficient(description, quantity, product):
