@@ -235,7 +235,9 @@ class Writer:
             if start.radius > tol:
                 allowed = self.amount(strictest, strictest.tolerance)
                 if quantity is not strictest:
-                    allowed += f" of {strictest.name}, the strictest, which for {quantity.name} is {self.amount(quantity, Fraction(tol, SCALE))}"
+                    allowed += f" of {strictest.name}, the strictest"
+                if quantity.scale != strictest.scale:
+                    allowed += f", for {quantity.name} {self.amount(quantity, Fraction(tol, SCALE))}"
                 self.refuse(
                     f"{quantity.name}, good_to: {self.amount(quantity, quantity.good_to)} ({start.radius} units) is more than the "
                     f"sheet's tolerance, {allowed} ({tol} units), and no step would pass: take a better reading, or allow a "

@@ -24,9 +24,10 @@ ANSWER = re.compile(r"row=1\s+degree=\d+\s|result=\d+\s+at=\d+\s*\Z")
 DESCRIPTION = re.compile(r"^[ \t]*\[(?:time|quantity\b.*|clearance)\]", re.MULTILINE)
 
 
-def is_description(text):
-    """Whether a text has a heading of a description, which no sheet has."""
-    return DESCRIPTION.search(text) is not None
+def is_description(text, is_named_so):
+    """Whether a text has a heading of a description, which no sheet has; or else is named as one, and begins as no sheet
+    does."""
+    return DESCRIPTION.search(text) is not None or is_named_so and not SHEET.match(text)
 
 
 def other_file(text):
