@@ -1,5 +1,5 @@
-"""What would serve in the place of a number that a sheet does not take: another 'whole' or another step, a round number,
-tried on the description before it is advised."""
+"""What would serve in the place of a number that a sheet does not take: another 'whole' or another step, a round
+number, tried on the description before it is advised."""
 
 from dataclasses import replace
 from fractions import Fraction
@@ -10,9 +10,9 @@ from units import SCALE, shown, unit, with_unit
 
 ROUND = (1, 2, 5)
 MOST_TENS = 60
-DAY = 86400
-# Lengths in seconds that people take for a step.
-STEPS = [DAY, 43200, 21600, 14400, 10800, 7200, 3600, 1800, 1200, 900, 600, 300, 240, 180, 120, 60, 30, 20, 15, 10, 5, 2, 1]
+# Lengths that people take for a step, in seconds: of hours, of minutes, of seconds.
+STEPS = [3600 * hours for hours in (24, 12, 6, 4, 3, 2, 1)]
+STEPS += [60 * minutes for minutes in (30, 20, 15, 10, 5, 4, 3, 2, 1)] + [30, 20, 15, 10, 5, 2, 1]
 TRIED = 30
 
 
@@ -145,8 +145,8 @@ def step_text(time, step):
 
 
 def search_range(clearance, asked, most):
-    """The search's range for a base and a need, in the clearance's unit, and which 'whole' serves. Less than the most by
-    a whole leaves room for every rounding."""
+    """The search's range for a base and a need, in the clearance's unit, and which 'whole' serves. A whole less than the
+    most leaves room for every rounding."""
     scale = clearance.scale
     end = with_unit(shown(scale.whole * most / SCALE), scale.unit)
     farthest = max(abs(asked.base), abs(asked.need)) * scale.whole

@@ -11,7 +11,7 @@ from functools import reduce
 import rates
 import slips
 from entries import Lines, Refused, mended, parse
-from units import MOST_LETTERS, OFF_BY, SCALE, UNITS, UNSIGNED, Unit, comma_words, measure, unit
+from units import MOST_LETTERS, OFF_BY, SCALE, UNITS, UNSIGNED, Unit, comma_words, meant, measure, unit
 
 ENTRIES = {
     (): {"title", "time", "accuracy", "constants", "quantity", "clearance"},
@@ -42,8 +42,8 @@ class Scale:
 @dataclass(frozen=True)
 class Quantity:
     """A quantity. Its start (None: no reading), how good that is and its tolerance (None: not given) are in wholes; its
-    sill (None: it has none), which is only drawn, is in its unit. Which of the first three were given in the sheet's own
-    units is kept: no other 'whole' changes those."""
+    sill (None: it has none), which is only drawn, is in its unit. Which of the first three were given in the sheet's
+    own units is kept: no other 'whole' changes those."""
 
     name: str
     about: str
@@ -60,7 +60,7 @@ class Quantity:
 @dataclass(frozen=True)
 class Time:
     """The sheet's time, in the description's unit: the step, with a minus where it goes back, and how many steps there
-    are; and the clock at the start (None: there is no clock), with its offset as it is told, empty where none was given."""
+    are; and the clock at the start (None: there is no clock), with its offset as it is told, empty where it has none."""
 
     scale: Scale
     begin: datetime.datetime | None
@@ -117,8 +117,11 @@ class Reader:
             found = found.get(name, {})
         if not isinstance(found, dict):
             self.refuse(f"'{path[-1]}' is a table: [{'.'.join(path)}]", *path)
-        for name in found.keys() - ENTRIES.get(path, found.keys()):
-            self.refuse(f"'{name}' is no entry of {'.'.join(path) or 'a description'}", *path, name)
+        known = ENTRIES.get(path, found.keys())
+        for name in found:
+            if name not in known:
+                of = ".".join(path) or "a description"
+                self.refuse(f"'{name}' is no entry of {of}{meant(name, known)}", *path, name)
         return found
 
     def text(self, table, path, otherwise):
@@ -252,8 +255,8 @@ class Reader:
             dated = True
         else:
             self.refuse(
-                "'begin' is a time, 08:00 or 08:00:00, or a day and a time, 2026-11-17T08:00, which may have an offset, "
-                "+01:00 or Z",
+                "'begin' is a time, 08:00 or 08:00:00, or a day and a time, 2026-11-17T08:00, which may have an "
+                "offset, +01:00 or Z",
                 "time",
                 "begin",
             )
@@ -296,8 +299,9 @@ class Reader:
     def quantity(self, name, constants, names):
         path = ("quantity", name)
         table = self.table(*path)
-        for entry in table.keys() - QUANTITY_ENTRIES:
-            self.refuse(f"'{entry}' is no entry of a quantity", *path, entry)
+        for entry in table:
+            if entry not in QUANTITY_ENTRIES:
+                self.refuse(f"'{entry}' is no entry of a quantity{meant(entry, QUANTITY_ENTRIES)}", *path, entry)
         scale = self.scale(table, path)
         start = self.start(table, scale, path)
         return Quantity(
@@ -396,8 +400,9 @@ def clock_of(text):
     if found is None:
         return None
     told = f"{found['hour']:0>2}:{found['rest']}{found['offset'] or ''}"
+    kind = datetime.datetime if found["day"] else datetime.time
     try:
-        return datetime.datetime.fromisoformat(found["day"] + told) if found["day"] else datetime.time.fromisoformat(told)
+        return kind.fromisoformat((found["day"] or "") + told)
     except ValueError:
         return None
 
@@ -406,7 +411,7 @@ def offset_of(begin):
     """The offset of a clock as it is told, empty where it has none."""
     if begin.tzinfo is None:
         return ""
-    return begin.strftime("%z")[:3] + ":" + begin.strftime("%z")[3:5] if begin.utcoffset() else "UTC"
+    return begin.isoformat()[-len("+01:00") :] if begin.utcoffset() else "UTC"
 
 
 def either_way(found):

@@ -215,8 +215,8 @@ def words(sheet, description=None):
 
 
 def closer(sheet, answer, description):
-    """Of a step that the planner refused, which quantity it was, by how much, and what would pass. Where the second program
-    does not tell it, that there is no closer explanation."""
+    """Of a step that the planner refused, which quantity it was, by how much, and what would pass. Where the second
+    program does not tell it, that there is no closer explanation."""
     try:
         said, names = agreed(sheet, answer), Names(description)
         _, *lines = step_words(names, answer.at, answer.result, said.groups)
@@ -224,7 +224,10 @@ def closer(sheet, answer, description):
     except Differ as differ:
         return [f"(there is no closer explanation: {differ})"]
     except programs.Failed:
-        return ["(there is no closer explanation: the second program could not be built or run; companion/passage explain says why)"]
+        return [
+            "(there is no closer explanation: the second program could not be built or run; companion/passage explain "
+            "says why)"
+        ]
 
 
 def told(answer, said, names):

@@ -5,14 +5,15 @@ import re
 from dataclasses import dataclass
 from fractions import Fraction
 
-from units import MINUS, MOST_LETTERS, UNSIGNED, comma_words
+from units import MINUS, MOST_LETTERS, UNSIGNED, comma_words, meant
 
 # Signs as they are printed, and what they are in a rate.
 ALIKE = {MINUS: "-", "\N{MULTIPLICATION SIGN}": "*", "\N{MIDDLE DOT}": "*", "\N{DOT OPERATOR}": "*"}
 RAISED = {"\N{SUPERSCRIPT TWO}": "2", "\N{SUPERSCRIPT THREE}": "3"}
 SPACE = r"[\s\N{NO-BREAK SPACE}\N{NARROW NO-BREAK SPACE}]"
 TOKEN = re.compile(
-    rf"{SPACE}*(?:(?P<number>{UNSIGNED})|(?P<name>[A-Za-z_]\w*)|(?P<sign>[-+*^{''.join(ALIKE)}])|(?P<raised>[{''.join(RAISED)}]))",
+    rf"{SPACE}*(?:(?P<number>{UNSIGNED})|(?P<name>[A-Za-z_]\w*)|(?P<sign>[-+*^{''.join(ALIKE)}])"
+    rf"|(?P<raised>[{''.join(RAISED)}]))",
     re.ASCII,
 )
 MOST_FACTORS = 2
@@ -61,7 +62,7 @@ def odd_sign(text, place):
     if sign in "\N{EN DASH}\N{EM DASH}":
         return f"'{sign}' is a dash and no minus: write a plain -"
     if sign in "/\N{DIVISION SIGN}":
-        return f"'{sign}' has no place in a rate: in the place of dividing by a number, multiply, as 0.5 * rise for rise / 2"
+        return f"'{sign}' has no place in a rate: in the place of dividing, multiply, as 0.5 * rise for rise / 2"
     return f"'{sign}' has no place in a rate: it is a sum of products, as in 2 * m2 * rise - 0.5 * speed^2"
 
 
@@ -125,7 +126,8 @@ class Reader:
         elif kind == "name" and word in self.quantities:
             number, quantities = Fraction(1), (word,)
         elif kind == "name":
-            raise Unreadable(place, f"'{word}' is neither a quantity nor a constant of this description")
+            known = meant(word, {*self.constants, *self.quantities})
+            raise Unreadable(place, f"'{word}' is neither a quantity nor a constant of this description{known}")
         else:
             what = f"'{word}'" if word else "the end"
             raise Unreadable(place, f"at {what} a number or a name is missing")

@@ -170,12 +170,12 @@ class Writer:
         exact = time.step / time.scale.whole * SCALE
         step = near(exact)
         if step == 0 or abs(step) > MOST_STEP:
-            fault = "shorter than a unit" if step == 0 else "longer than the whole"
+            fault, end = "longer than the whole", time.scale.whole
+            if step == 0:
+                fault, end = "shorter than a unit", end / SCALE
+            given, end = (with_unit(shown(number), time.scale.unit) for number in (abs(time.step), end))
             self.refuse(
-                f"a step of {with_unit(shown(abs(time.step)), time.scale.unit)} is {fault} of the sheet's time, "
-                f"{with_unit(shown(time.scale.whole / (SCALE if step == 0 else 1)), time.scale.unit)}{self.step_advice(step)}",
-                "time",
-                "step",
+                f"a step of {given} is {fault} of the sheet's time, {end}{self.step_advice(step)}", "time", "step"
             )
         if abs(beside_its_time(time, step)) * FINEST_PART > abs(time.step):
             self.refuse(
@@ -239,9 +239,9 @@ class Writer:
                 if quantity.scale != strictest.scale:
                     allowed += f", for {quantity.name} {self.amount(quantity, Fraction(tol, SCALE))}"
                 self.refuse(
-                    f"{quantity.name}, good_to: {self.amount(quantity, quantity.good_to)} ({start.radius} units) is more than the "
-                    f"sheet's tolerance, {allowed} ({tol} units), and no step would pass: take a better reading, or allow a "
-                    "larger tolerance if the ship can bear it",
+                    f"{quantity.name}, good_to: {self.amount(quantity, quantity.good_to)} ({start.radius} units) is more "
+                    f"than the sheet's tolerance, {allowed} ({tol} units), and no step would pass: take a better reading, "
+                    "or allow a larger tolerance if the ship can bear it",
                     "quantity",
                     quantity.name,
                     "good_to",
@@ -335,8 +335,14 @@ def ratio(sheet):
     sizes = {}
     for (to, *factors), coef in like.items():
         sizes.setdefault(to, [0, 0, 0])[sum(factor > 0 for factor in factors)] += abs(coef)
-    largest = max((-(-SCALE * none // scale) + one + -(-scale * two // SCALE) for none, one, two in sizes.values()), default=0)
-    return -(-largest * abs(sheet.step) // SCALE)
+    rates = (up(SCALE * none, scale) + one + up(scale * two, SCALE) for none, one, two in sizes.values())
+    largest = max(rates, default=0)
+    return up(largest * abs(sheet.step), SCALE)
+
+
+def up(number, divisor):
+    """A whole number divided by another, rounded up."""
+    return -(-number // divisor)
 
 
 def coefficient(description, quantity, product):

@@ -1,5 +1,5 @@
-"""What is wrong with a text that cannot be read as a description, in the words of who wrote it: the line, what stands there,
-and what to write in its place."""
+"""What is wrong with a text that cannot be read as a description, in the words of who wrote it: the line, what stands
+there, and what to write in its place."""
 
 import re
 
@@ -35,7 +35,7 @@ def other_file(text):
     if not text.strip():
         return "the file is empty: a description has [time], a [quantity.NAME] and what stands under them"
     if SHEET.match(text):
-        return "this is a sheet, and a description is wanted here, whose name mostly ends in .toml (passage explain takes a sheet)"
+        return "this is a sheet, and a description is wanted here; only passage explain takes a sheet"
     if ANSWER.match(text):
         return "this is an answer of the planner's, and a description is wanted here"
     if text.lstrip().startswith("<"):
@@ -79,7 +79,7 @@ def why(lines, number, said):
     line = lines[number - 1]
     bare = without_comment(TEXT.sub('""', line))
     return (
-        ("between \" and \" a \\ has to be doubled: \\\\" if "'\\'" in said or "escape" in said.lower() else None)
+        backslash_words(said)
         or sign_words(bare)
         or comma_words(bare)
         or heading_words(bare)
@@ -87,6 +87,10 @@ def why(lines, number, said):
         or entry_words(bare, without_comment(line))
         or "this is no entry of a description, as 'start = 1.60' or 'unit = \"m\"', and no heading, as '[time]'"
     )
+
+
+def backslash_words(said):
+    return "between \" and \" a \\ has to be doubled: \\\\" if "'\\'" in said or "escape" in said.lower() else None
 
 
 def without_comment(line):
@@ -121,7 +125,8 @@ def twice(lines, number, said):
 def sign_words(bare):
     """Signs that look like others."""
     if QUOTES.search(bare):
-        return f"the quotes {' '.join(dict.fromkeys(QUOTES.findall(bare)))} are typographic: write straight ones, \" and \""
+        found = " ".join(dict.fromkeys(QUOTES.findall(bare)))
+        return f'the quotes {found} are typographic: write straight ones, " and "'
     if SPACES.search(bare):
         return "there is a space that is none, a no-break space perhaps: write a plain one"
     if MINUS in bare or DASHES.search(bare):
@@ -148,22 +153,19 @@ def entry_words(bare, line):
         return 'a quote is missing: a text stands between " and "'
     if name == "begin":
         return "'begin' is a time, as 20:30, or a day and a time, as 2026-11-17T20:30"
-    if re.fullmatch(r"[+-]?\.\d+|[+-]?\d+\.", value):
-        return f"{value} has no digit {'before' if value.lstrip('+-').startswith('.') else 'behind'} the point: write {full(value)}"
+    if re.fullmatch(r"[+-]?\.\d+", value):
+        return f"{value} has no digit before the point: write {value.replace('.', '0.')}"
+    if re.fullmatch(r"[+-]?\d+\.", value):
+        return f"{value} has no digit behind the point: write {value}0"
     if re.fullmatch(r"[+-]?0\d+(\.\d+)?", value):
         return f"{value} has a 0 too many in front"
     if value.startswith("{"):
-        return "between { and } stand names, each with = and a number, and commas between them, as { water = 1, rise = -0.5 }"
+        return "between { and } stand names, each with = and a number, parted by commas, as { water = 1, rise = -0.5 }"
     if '""' in value:
         return f"behind '{name} =' stands one number or one text"
     if name in TEXTS or measure(OFF_BY.sub("", given, count=1)):
         return f'{given} stands between quotes: write {name} = "{given}"'
     return f"{given} is no number: one is 1.60, or with a unit and between quotes \"4 cm\""
-
-
-def full(number):
-    """A number that begins or ends with its point, with a 0 there."""
-    return f"{number}0" if number.endswith(".") else number.replace(".", "0.")
 
 
 def name_words(bare):
@@ -186,4 +188,5 @@ def unended(lines):
             opened = None if opened and opened[1] == mark else opened or (number, mark)
     if opened is None:
         return None
-    return opened[0], f"in '{shown(lines[opened[0] - 1])}': the text that begins with {opened[1]} has no {opened[1]} at its end"
+    number, mark = opened
+    return number, f"in '{shown(lines[number - 1])}': the text that begins with {mark} has no {mark} at its end"

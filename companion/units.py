@@ -2,6 +2,7 @@
 
 import re
 from dataclasses import dataclass
+from difflib import get_close_matches
 from fractions import Fraction
 from math import floor
 
@@ -110,6 +111,12 @@ def comma_words(text):
         return f"{number} has commas: write {number.replace(',', '')}, with a point for the places behind it alone"
     thousands = f", or {whole}{parts[0]} if thousands are meant" if len(parts[0]) == 3 and whole.strip("+-0") else ""
     return f"{number} has a comma: write {whole}.{parts[0]}{thousands}"
+
+
+def meant(name, known):
+    """A question after a name that is not known, where one that is known is much like it."""
+    found = get_close_matches(name.lower(), sorted(known), 1)
+    return f": is '{found[0]}' meant?" if found else ""
 
 
 def near(number):

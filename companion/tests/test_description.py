@@ -113,6 +113,10 @@ REFUSALS = [
     ([('rate = "m2 * fall"', f'rate = "{"1" * 5000} * fall"')], 19, "a number of more than 80 letters"),
     ([('title = "a tide"', "title = 3")], 1, "'title' is a text of one line"),
     ([('title = "a tide"', "accuracy = 3"), ("[accuracy]\ntail = 10\n", "")], 1, "'accuracy' is a table"),
+    ([("start = 1.60", "stat = 1.60\nzzz = 1")], 30, "'stat' is no entry of a quantity: is 'start' meant?"),
+    ([("start = 1.60", "Good_To = 0")], 30, "'Good_To' is no entry of a quantity: is 'good_to' meant?"),
+    ([("[accuracy]", "[Accuracy]")], 9, "'Accuracy' is no entry of a description: is 'accuracy' meant?"),
+    ([('rate = "m2 * fall"', 'rate = "m2 * fal"')], 19, "of this description: is 'fall' meant?"),
     ([("start = 1.60", 'start = "1,6 m"')], 30, "'start': 1,6 has a comma: write 1.6"),
     ([("start = 1.60", 'start = "1,852 m"')], 30, "1,852 has a comma: write 1.852, or 1852 if thousands are meant"),
     ([("start = 1.60", 'start = "0,852 m"')], 30, "'start': 0,852 has a comma: write 0.852"),
@@ -124,7 +128,7 @@ REFUSALS = [
     ([('m2 = "28.9841042 deg/h"', 'm2 = "28,98 °/h"')], 13, "'m2': 28,98 has a comma: write 28.98"),
     ([('rate = "m2 * fall"', 'rate = "0,5 * fall"')], 19, "0,5 has a comma: write 0.5"),
     ([('rate = "m2 * fall"', 'rate = "m2 \N{EN DASH} fall"')], 19, "is a dash and no minus"),
-    ([('rate = "m2 * fall"', 'rate = "fall / 2"')], 19, "in the place of dividing by a number, multiply"),
+    ([('rate = "m2 * fall"', 'rate = "fall / 2"')], 19, "in the place of dividing, multiply"),
 ]
 
 WEIGHTS = "weights = { water = 1, rise = -0.5 }"
