@@ -57,6 +57,8 @@ class Clock:
         return self.text(ends[0], ceil), self.text(ends[1], floor)
 
     def heading(self):
+        if self.time.offset:
+            return f"time ({self.time.offset})"
         return "time" if self.is_clock or self.time.scale.unit == "1" else f"time, {self.time.scale.unit}"
 
 

@@ -9,8 +9,9 @@ from fractions import Fraction
 from functools import reduce
 
 import rates
-from entries import Lines, Refused, parse
-from units import SCALE, UNITS, Unit, measure, unit
+import slips
+from entries import Lines, Refused, mended, parse
+from units import MOST_LETTERS, OFF_BY, SCALE, UNITS, UNSIGNED, Unit, comma_words, meant, measure, unit
 
 ENTRIES = {
     (): {"title", "time", "accuracy", "constants", "quantity", "clearance"},
@@ -19,6 +20,7 @@ ENTRIES = {
     ("clearance",): {"about", "unit", "whole", "weights", "base", "need", "for", "digits", "sill"},
 }
 QUANTITY_ENTRIES = {"about", "unit", "whole", "start", "good_to", "tolerance", "rate", "digits", "sill"}
+IN_WHOLES = ("start", "good_to", "tolerance")
 NAME = re.compile(r"[A-Za-z_]\w*", re.ASCII)
 LEAST_TAIL = 2
 DIGITS = 3
@@ -40,7 +42,8 @@ class Scale:
 @dataclass(frozen=True)
 class Quantity:
     """A quantity. Its start (None: no reading), how good that is and its tolerance (None: not given) are in wholes; its
-    sill (None: it has none), which is only drawn, is in its unit."""
+    sill (None: it has none), which is only drawn, is in its unit. Which of the first three were given in the sheet's
+    own units is kept: no other 'whole' changes those."""
 
     name: str
     about: str
@@ -51,18 +54,20 @@ class Quantity:
     products: tuple
     digits: int
     sill: Fraction | None
+    in_units: frozenset = frozenset()
 
 
 @dataclass(frozen=True)
 class Time:
     """The sheet's time, in the description's unit: the step, with a minus where it goes back, and how many steps there
-    are; and the clock at the start (None: there is no clock)."""
+    are; and the clock at the start (None: there is no clock), with its offset as it is told, empty where it has none."""
 
     scale: Scale
     begin: datetime.datetime | None
     dated: bool
     step: Fraction
     steps: int
+    offset: str = ""
 
 
 @dataclass(frozen=True)
@@ -98,6 +103,7 @@ class Reader:
     """Reads one description."""
 
     def __init__(self, text):
+        text = mended(text)
         self.tables = parse(text)
         self.lines = Lines(text)
 
@@ -111,12 +117,17 @@ class Reader:
             found = found.get(name, {})
         if not isinstance(found, dict):
             self.refuse(f"'{path[-1]}' is a table: [{'.'.join(path)}]", *path)
-        for name in found.keys() - ENTRIES.get(path, found.keys()):
-            self.refuse(f"'{name}' is no entry of {'.'.join(path) or 'a description'}", *path, name)
+        known = ENTRIES.get(path, found.keys())
+        for name in found:
+            if name not in known:
+                of = ".".join(path) or "a description"
+                self.refuse(f"'{name}' is no entry of {of}{meant(name, known)}", *path, name)
         return found
 
     def text(self, table, path, otherwise):
         found = table.get(path[-1], otherwise)
+        if isinstance(found, str):
+            found = re.sub(r"[\t\N{NO-BREAK SPACE}\N{NARROW NO-BREAK SPACE}]", " ", found)
         if not isinstance(found, str) or not found.isprintable():
             self.refuse(f"'{path[-1]}' is a text of one line", *path)
         return found
@@ -140,6 +151,8 @@ class Reader:
         if not isinstance(found, str):
             return self.number(found, path)
         parted = measure(found)
+        if parted is None and comma_words(found):
+            return self.refuse(f"'{path[-1]}': {comma_words(found)}", *path)
         if parted is None:
             return self.refuse(f"'{path[-1]}' is a number, or a text like '4 cm', and not '{found}'", *path)
         number, text = parted
@@ -212,12 +225,12 @@ class Reader:
         if step == 0:
             self.refuse("'step' is 0: no time would pass", "time", "step")
         steps = self.steps(table, scale, step)
-        begin, dated = self.begin(table.get("begin"), scale)
+        begin, dated, offset = self.begin(table.get("begin"), scale)
         if begin is not None and abs(step) * steps * unit(scale.unit).size > MOST_SECONDS:
             self.refuse("a passage with a clock ends within a year", "time", "begin")
         if dated and begin.year not in YEARS:
             self.refuse(f"'begin' is in the years {YEARS[0]} to {YEARS[-1]}", "time", "begin")
-        return Time(scale, begin, dated, step, steps)
+        return Time(scale, begin, dated, step, steps, offset)
 
     def steps(self, table, scale, step):
         if ("steps" in table) == ("length" in table):
@@ -231,23 +244,26 @@ class Reader:
         return int(steps)
 
     def begin(self, found, scale):
-        """The clock at the start, and whether its day is given."""
+        """The clock at the start, whether its day is given, and its offset as it is told."""
         if found is None:
-            return None, False
-        if isinstance(found, str) and re.fullmatch(r"([01]?\d|2[0-3]):[0-5]\d", found):
-            found = datetime.time(*map(int, found.split(":")))
+            return None, False, ""
+        if isinstance(found, str):
+            found = clock_of(found)
         if isinstance(found, datetime.time):
             found, dated = datetime.datetime.combine(datetime.date(2000, 1, 1), found), False
-        elif isinstance(found, datetime.datetime) and found.tzinfo is None:
+        elif isinstance(found, datetime.datetime):
             dated = True
         else:
             self.refuse(
-                "'begin' is a time, 08:00:00 or \"08:00\", or a day and a time, 2026-11-17T08:00:00", "time", "begin"
+                "'begin' is a time, 08:00 or 08:00:00, or a day and a time, 2026-11-17T08:00, which may have an "
+                "offset, +01:00 or Z",
+                "time",
+                "begin",
             )
         kind = unit(scale.unit)
         if kind is None or not kind.is_like(unit("s")):
             self.refuse(f"there is no clock in '{scale.unit}': the unit of time is s, min, h or d", "time", "begin")
-        return found, dated
+        return found.replace(tzinfo=None), dated, offset_of(found)
 
     def constants(self, time):
         return {name: self.constant(name, found, time) for name, found in self.table("constants").items()}
@@ -261,6 +277,8 @@ class Reader:
             return self.number(found, path)
         parted, tick = measure(found), unit(time.scale.unit)
         given = unit(parted[1]) if parted else None
+        if given is None and comma_words(found):
+            self.refuse(f"'{name}': {comma_words(found)}", *path)
         if given is None or tick is None or not given.is_like(UNIT_OF_NUMBERS.over(tick)):
             self.refuse(
                 f"'{name}' is a number in the description's units, or an angle for a time like '28.98 deg/h'", *path
@@ -281,8 +299,9 @@ class Reader:
     def quantity(self, name, constants, names):
         path = ("quantity", name)
         table = self.table(*path)
-        for entry in table.keys() - QUANTITY_ENTRIES:
-            self.refuse(f"'{entry}' is no entry of a quantity", *path, entry)
+        for entry in table:
+            if entry not in QUANTITY_ENTRIES:
+                self.refuse(f"'{entry}' is no entry of a quantity{meant(entry, QUANTITY_ENTRIES)}", *path, entry)
         scale = self.scale(table, path)
         start = self.start(table, scale, path)
         return Quantity(
@@ -295,6 +314,7 @@ class Reader:
             self.products(table, path, constants, names),
             self.digits(table, path),
             self.sill(table, scale, path, NO_SILL),
+            frozenset(entry for entry in IN_WHOLES if isinstance(table.get(entry), dict)),
         )
 
     def start(self, table, scale, path):
@@ -305,7 +325,7 @@ class Reader:
     def good_to(self, table, scale, path):
         if "good_to" not in table:
             self.refuse(f"'{path[-1]}' does not say how good its start is: good_to, 0 where it is known exactly", *path)
-        found = self.in_wholes(table["good_to"], scale, (*path, "good_to"))
+        found = self.in_wholes(either_way(table["good_to"]), scale, (*path, "good_to"))
         if found < 0:
             self.refuse("'good_to' is 0 or more", *path, "good_to")
         return found
@@ -313,7 +333,7 @@ class Reader:
     def tolerance(self, table, scale, path):
         if "tolerance" not in table:
             return None
-        return self.in_wholes(table["tolerance"], scale, (*path, "tolerance"))
+        return self.in_wholes(either_way(table["tolerance"]), scale, (*path, "tolerance"))
 
     def sill(self, table, scale, path, otherwise):
         found = table.get("sill", otherwise)
@@ -374,6 +394,35 @@ class Reader:
 UNIT_OF_NUMBERS = unit("1")
 
 
+def clock_of(text):
+    """The time, or the day and the time, of a text like 20:30 or 2026-11-17 08:00+01:00; None where it is none."""
+    found = slips.CLOCK.fullmatch(text.strip())
+    if found is None:
+        return None
+    told = f"{found['hour']:0>2}:{found['rest']}{found['offset'] or ''}"
+    kind = datetime.datetime if found["day"] else datetime.time
+    try:
+        return kind.fromisoformat((found["day"] or "") + told)
+    except ValueError:
+        return None
+
+
+def offset_of(begin):
+    """The offset of a clock as it is told, empty where it has none."""
+    if begin.tzinfo is None:
+        return ""
+    return begin.isoformat()[-len("+01:00") :] if begin.utcoffset() else "UTC"
+
+
+def either_way(found):
+    """What stands behind a plus-minus sign; anything else as it is."""
+    mark = OFF_BY.match(found) if isinstance(found, str) else None
+    if mark is None:
+        return found
+    rest = found[mark.end() :]
+    return Decimal(rest) if re.fullmatch(UNSIGNED, rest, re.ASCII) and len(rest) <= MOST_LETTERS else rest
+
+
 def rows_of(length, time):
     """The rows whose steps together are at least so long, in the description's unit of time."""
     return -(-length // abs(time.step))
@@ -381,4 +430,6 @@ def rows_of(length, time):
 
 def read(text):
     """The description that a text is. Raises Refused."""
+    if slips.other_file(text):
+        raise Refused(None, slips.other_file(text))
     return Reader(text).description()

@@ -4,6 +4,8 @@ import re
 import tomllib
 from decimal import Decimal
 
+import slips
+
 
 class Refused(Exception):
     """A description that cannot be taken: why, and on which line (None where no line is to blame)."""
@@ -16,15 +18,52 @@ class Refused(Exception):
         return f"{name}: {self.why}" if self.line is None else f"{name}:{self.line}: {self.why}"
 
 
+UNREADABLE = (ValueError, ArithmeticError, RecursionError)
+
+
+def loaded(text):
+    return tomllib.loads(text, parse_float=Decimal)
+
+
 def parse(text):
     """The text's tables. Its decimals are exact: none becomes a binary fraction."""
     try:
-        return tomllib.loads(text, parse_float=Decimal)
+        return loaded(text)
     except tomllib.TOMLDecodeError as error:
-        found = re.search(r"\(at line (\d+), column \d+\)", str(error))
-        raise Refused(int(found.group(1)) if found else None, f"this is not TOML: {error}") from error
-    except (ValueError, ArithmeticError, RecursionError) as error:
-        raise Refused(None, "this is TOML with a number too long, or tables too deep, to be a description") from error
+        raise Refused(*slip(text, str(error))) from error
+    except UNREADABLE as error:
+        raise Refused(None, "there is a number too long, or tables too deep, for a description") from error
+
+
+def slip(text, said):
+    """The line of what TOML cannot read, None where it is not known, and what is wrong there."""
+    lines = text.split("\n")
+    found = re.search(r"\(at line (\d+), column \d+\)", said)
+    number = int(found.group(1)) if found else len(lines)
+    if not found and slips.unended(lines):
+        return slips.unended(lines)
+    while number > 1 and not lines[number - 1].strip():
+        number -= 1
+    return number, slips.words(lines, number, said)
+
+
+def mended(text):
+    """The text with each 'begin = 20:30' between quotes. TOML itself has said that it cannot read that line: so it is
+    none of a text over several lines."""
+    while True:
+        try:
+            loaded(text)
+            return text
+        except tomllib.TOMLDecodeError as error:
+            lines = text.split("\n")
+            number, _ = slip(text, str(error))
+        except UNREADABLE:
+            return text
+        line = slips.mended(lines[number - 1])
+        if line is None:
+            return text
+        lines[number - 1] = line
+        text = "\n".join(lines)
 
 
 def names(table):
@@ -44,8 +83,8 @@ def statements(text):
     while place < len(lines):
         for last in range(place, len(lines)):
             try:
-                table = parse("\n".join(lines[place : last + 1]))
-            except Refused:
+                table = loaded("\n".join(lines[place : last + 1]))
+            except UNREADABLE:
                 continue
             if table:
                 yield place + 1, last + 1 - place, table

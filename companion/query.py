@@ -7,6 +7,7 @@ from fractions import Fraction
 from itertools import takewhile
 from math import ceil, floor
 
+from advice import search_range
 from entries import Refused
 from units import SCALE, at_most, near, shown, with_unit
 
@@ -67,7 +68,8 @@ def check(description, found, need):
                 f"{shown(Fraction(weight, SCALE))} for the sheet's wholes, and the search takes 4 at most: give the "
                 "[clearance] a larger 'whole'",
             )
+    taken = search_range(description.clearance, found.base, need, MOST_NEED)
     if abs(found.base) > MOST_NEED:
-        raise Refused(lines.line("clearance", "base"), "the base is past the search's range, 32 wholes")
+        raise Refused(lines.line("clearance", "base"), f"the base is past the search's range, {taken}")
     if abs(need) > MOST_NEED:
-        raise Refused(lines.line("clearance", "need"), "the need is past the search's range, 32 wholes")
+        raise Refused(lines.line("clearance", "need"), f"the need is past the search's range, {taken}")

@@ -5,9 +5,17 @@ import re
 from dataclasses import dataclass
 from fractions import Fraction
 
-from units import MOST_LETTERS, UNSIGNED
+from units import MINUS, MOST_LETTERS, UNSIGNED, comma_words, meant
 
-TOKEN = re.compile(rf"\s*(?:(?P<number>{UNSIGNED})|(?P<name>[A-Za-z_]\w*)|(?P<sign>[-+*^]))", re.ASCII)
+# Signs as they are printed, and what they are in a rate.
+ALIKE = {MINUS: "-", "\N{MULTIPLICATION SIGN}": "*", "\N{MIDDLE DOT}": "*", "\N{DOT OPERATOR}": "*"}
+RAISED = {"\N{SUPERSCRIPT TWO}": "2", "\N{SUPERSCRIPT THREE}": "3"}
+SPACE = r"[\s\N{NO-BREAK SPACE}\N{NARROW NO-BREAK SPACE}]"
+TOKEN = re.compile(
+    rf"{SPACE}*(?:(?P<number>{UNSIGNED})|(?P<name>[A-Za-z_]\w*)|(?P<sign>[-+*^{''.join(ALIKE)}])"
+    rf"|(?P<raised>[{''.join(RAISED)}]))",
+    re.ASCII,
+)
 MOST_FACTORS = 2
 POWERS = "123456789"
 MOST_BITS = 4000
@@ -36,14 +44,26 @@ def tokens(text):
     while place < end:
         found = TOKEN.match(text, place)
         if found is None:
-            raise Unreadable(
-                place,
-                f"'{text[place:end].strip()[:1]}' has no place in a rate: it is a sum of products, "
-                "as in 2 * m2 * rise - 0.5 * speed^2",
-            )
-        yield found.lastgroup, found.group(found.lastgroup), found.start(found.lastgroup)
+            raise Unreadable(place, odd_sign(text, place))
+        kind, word, at = found.lastgroup, found.group(found.lastgroup), found.start(found.lastgroup)
+        if kind == "raised":
+            yield "sign", "^", at
+        yield ("number", RAISED[word], at) if kind == "raised" else (kind, ALIKE.get(word, word), at)
         place = found.end()
     yield "end", "", end
+
+
+def odd_sign(text, place):
+    """What to say of a sign that is none of a rate's."""
+    sign = text[place:].strip()[:1]
+    before = re.search(r"\d+$", text[:place])
+    if sign == "," and before and comma_words(text[before.start() :]):
+        return comma_words(text[before.start() :])
+    if sign in "\N{EN DASH}\N{EM DASH}":
+        return f"'{sign}' is a dash and no minus: write a plain -"
+    if sign in "/\N{DIVISION SIGN}":
+        return f"'{sign}' has no place in a rate: in the place of dividing, multiply, as 0.5 * rise for rise / 2"
+    return f"'{sign}' has no place in a rate: it is a sum of products, as in 2 * m2 * rise - 0.5 * speed^2"
 
 
 class Reader:
@@ -106,7 +126,8 @@ class Reader:
         elif kind == "name" and word in self.quantities:
             number, quantities = Fraction(1), (word,)
         elif kind == "name":
-            raise Unreadable(place, f"'{word}' is neither a quantity nor a constant of this description")
+            known = meant(word, {*self.constants, *self.quantities})
+            raise Unreadable(place, f"'{word}' is neither a quantity nor a constant of this description{known}")
         else:
             what = f"'{word}'" if word else "the end"
             raise Unreadable(place, f"at {what} a number or a name is missing")

@@ -3,16 +3,18 @@ whether a sheet that was read back says what the description means."""
 
 from dataclasses import dataclass
 from fractions import Fraction
+from functools import partial
 from math import ceil, floor
 
-import wholes
+from advice import Adviser, larger, smaller
 from clock import length
 from entries import Refused
 from units import SCALE, decimal, near, shown, with_unit
 
-LIMIT = 32 * SCALE
+MOST_WHOLES = 32
+LIMIT = MOST_WHOLES * SCALE
 MOST_QUANTITIES, MOST_STEPS, MOST_TERMS = 8, 240, 32
-MOST_STEP, MOST_COEF = SCALE, 16 * SCALE
+MOST_STEP, MOST_COEF, MOST_RATIO = SCALE, 16 * SCALE, SCALE // 2
 FINEST_PART = 1000  # Of a step, by no more than which a rounded step may move a row from its time.
 
 
@@ -79,20 +81,46 @@ def in_units(number):
 
 
 class Writer:
-    """Works out a description's sheet, and says each rounding."""
+    """Works out a description's sheet, and says each rounding. What it refuses it advises on, unless it is itself on
+    trial."""
 
-    def __init__(self, description, is_trial=False):
-        self.description, self.is_trial = description, is_trial
+    def __init__(self, description, advises=True):
+        self.description, self.advises = description, advises
         self.said = []
 
     def refuse(self, why, *path):
         raise Refused(self.description.lines.line(*path), why)
 
+    def adviser(self, *path):
+        return Adviser(self, self.description.lines.line(*path), MOST_STEPS)
+
     def within(self, number, least, most, what, *path):
-        """A number of the sheet, which is refused outside its range."""
-        if not least <= number <= most:
-            self.refuse(f"{what}: {number} units are past the sheet's range, {least} to {most}", *path)
-        return number
+        """A coefficient of the sheet, which is refused outside its range. It is for each whole of time and of its own
+        quantity: so a smaller one of the first serves, or a larger one of the second."""
+        if least <= number <= most:
+            return number
+        size = Fraction(near(Fraction(number, SCALE) * 10**6), 10**6)
+        told = f"{what} is {shown(size)} for the sheet's wholes, and a sheet takes {most // SCALE} at most"
+        if not self.advises:
+            return self.refuse(told, *path)
+        adviser, time = self.adviser(*path), self.description.time
+        quantity = next(each for each in self.description.quantities if each.name == path[1])
+        finer = smaller(time.scale.whole)
+        options = adviser.time(finer), adviser.quantity(quantity, larger(quantity.scale.whole)), adviser.step(finer[:9])
+        return self.refuse(told + adviser.words(*options), *path)
+
+    def past(self, quantity, entry, wholes, least, most):
+        """Refuses a number of a quantity that is past its range, in the quantity's own unit."""
+        path = ("quantity", quantity.name, entry)
+        told = f"{quantity.name}, {entry}: {self.amount(quantity, wholes)}"
+        if least <= wholes <= most:
+            told += " with what the start is moved by"
+        told += f" is past the sheet's range, {self.amount(quantity, least)} to {self.amount(quantity, most)}"
+        if self.advises:
+            adviser, whole = self.adviser(*path), quantity.scale.whole
+            wholes = smaller(whole) if wholes < least and least > 0 else larger(whole)
+            told += adviser.words(adviser.quantity(quantity, wholes))
+        self.refuse(told, *path)
 
     def sheet(self):
         described = self.description
@@ -101,10 +129,27 @@ class Writer:
             self.refuse(f"'{extra}' is the ninth quantity, and a sheet has eight at most", "quantity", extra)
         steps, step, tail, tol = self.steps(), self.step(), described.tail, self.tol()
         starts = tuple(self.start(quantity) for quantity in described.quantities)
+        self.check_radii(starts, tol)
         terms = tuple(self.terms())
         if len(terms) > MOST_TERMS:
             self.refuse(f"the rates have {len(terms)} products, and a sheet has {MOST_TERMS} terms at most", "quantity")
         return Sheet(steps, step, tail, tol, starts, terms)
+
+    def parts(self):
+        """What a sheet is made of, each to be worked out by itself, so that every part's refusal is met."""
+        starts = [partial(self.start, quantity) for quantity in self.description.quantities]
+        return [self.steps, self.step, self.tol, *starts, self.sheet_radii, lambda: list(self.terms())]
+
+    def sheet_radii(self):
+        self.check_radii([self.start(quantity) for quantity in self.description.quantities], self.tol())
+
+    def starts_well(self):
+        """Whether the planner's questions 4 and 5 let the first step pass; not where there is no sheet."""
+        try:
+            sheet = self.sheet()
+        except Refused:
+            return False
+        return largest_size(sheet) <= LIMIT and ratio(sheet) <= MOST_RATIO
 
     def steps(self):
         steps = self.description.time.steps
@@ -125,17 +170,17 @@ class Writer:
         exact = time.step / time.scale.whole * SCALE
         step = near(exact)
         if step == 0 or abs(step) > MOST_STEP:
-            fault = "shorter than a unit" if step == 0 else "longer than the whole"
+            fault, end = "longer than the whole", time.scale.whole
+            if step == 0:
+                fault, end = "shorter than a unit", end / SCALE
+            given, end = (with_unit(shown(number), time.scale.unit) for number in (abs(time.step), end))
             self.refuse(
-                f"a step of {with_unit(shown(abs(time.step)), time.scale.unit)} is {fault} of the sheet's time: choose another "
-                f"'whole' in [time] than {with_unit(shown(time.scale.whole), time.scale.unit)}",
-                "time",
-                "step",
+                f"a step of {given} is {fault} of the sheet's time, {end}{self.step_advice(step)}", "time", "step"
             )
         if abs(beside_its_time(time, step)) * FINEST_PART > abs(time.step):
             self.refuse(
                 f"the {in_units(abs(exact))} units of a step cannot be rounded without moving row {time.steps} by more than a "
-                "thousandth of a step: choose a smaller 'whole' in [time]",
+                f"thousandth of a step{self.step_advice(step)}",
                 "time",
                 "step",
             )
@@ -147,14 +192,25 @@ class Writer:
             )
         return step
 
+    def step_advice(self, step):
+        """What serves a step that is too long for the sheet's time, or too short."""
+        if not self.advises:
+            return ""
+        adviser, time = self.adviser("time", "step"), self.description.time
+        if abs(step) > MOST_STEP:
+            return adviser.words(adviser.time(larger(abs(time.step))), adviser.step())
+        return adviser.words(adviser.time(smaller(time.scale.whole)))
+
     def tol(self):
         """The least tolerance, rounded down: the sheet has one for all quantities."""
         given = [quantity for quantity in self.description.quantities if quantity.tolerance is not None]
         if not given:
             self.refuse("no quantity has a tolerance, the largest radius that a row may have", "quantity")
-        strictest = min(given, key=lambda quantity: quantity.tolerance)
+        strictest = self.strictest()
         exact = strictest.tolerance * SCALE
-        tol = self.within(floor(exact), 1, LIMIT, "tolerance", "quantity", strictest.name, "tolerance")
+        tol = floor(exact)
+        if not 1 <= tol <= LIMIT:
+            self.past(strictest, "tolerance", strictest.tolerance, Fraction(1, SCALE), MOST_WHOLES)
         if tol != exact:
             self.say(
                 f"tol: {self.amount(strictest, strictest.tolerance)} of {strictest.name} are {in_units(exact)} units, "
@@ -167,19 +223,44 @@ class Writer:
                 )
         return tol
 
+    def strictest(self):
+        """The quantity whose tolerance is the sheet's."""
+        given = [quantity for quantity in self.description.quantities if quantity.tolerance is not None]
+        return min(given, key=lambda quantity: quantity.tolerance)
+
+    def check_radii(self, starts, tol):
+        """Refuses a start that is less certain than a row may be: no step makes a radius smaller."""
+        strictest = self.strictest()
+        for quantity, start in zip(self.description.quantities, starts):
+            if start.radius > tol:
+                allowed = self.amount(strictest, strictest.tolerance)
+                if quantity is not strictest:
+                    allowed += f" of {strictest.name}, the strictest"
+                if quantity.scale != strictest.scale:
+                    allowed += f", for {quantity.name} {self.amount(quantity, Fraction(tol, SCALE))}"
+                self.refuse(
+                    f"{quantity.name}, good_to: {self.amount(quantity, quantity.good_to)} ({start.radius} units) is more "
+                    f"than the sheet's tolerance, {allowed} ({tol} units), and no step would pass: take a better reading, "
+                    "or allow a larger tolerance if the ship can bear it",
+                    "quantity",
+                    quantity.name,
+                    "good_to",
+                )
+
     def start(self, quantity):
         name = quantity.name
-        path = ("quantity", name)
         good_to = quantity.good_to * SCALE
         if quantity.start is None:
             self.say(
                 f"{name}: there is no reading, written none; the planner refuses the sheet with 4 until there is one"
             )
-            return Start(None, self.within(ceil(good_to), 0, LIMIT, f"{name}, good_to", *path, "good_to"))
+            return Start(None, self.radius(quantity, 0))
         exact = quantity.start * SCALE
-        value = self.within(near(exact), -LIMIT, LIMIT, f"{name}, start", *path, "start")
+        value = near(exact)
+        if abs(value) > LIMIT:
+            self.past(quantity, "start", quantity.start, -MOST_WHOLES, MOST_WHOLES)
         moved = abs(value - exact)
-        radius = self.within(ceil(good_to + moved), 0, LIMIT, f"{name}, good_to", *path, "good_to")
+        radius = self.radius(quantity, moved)
         if moved:
             self.say(
                 f"{name}: the start {self.amount(quantity, quantity.start)} is {in_units(exact)} units, written {value}"
@@ -191,6 +272,13 @@ class Writer:
             )
         return Start(value, radius)
 
+    def radius(self, quantity, moved):
+        """How good a start is, and what it was moved by, rounded up."""
+        radius = ceil(quantity.good_to * SCALE + moved)
+        if radius > LIMIT:
+            self.past(quantity, "good_to", quantity.good_to, 0, MOST_WHOLES)
+        return radius
+
     def terms(self):
         numbers = self.description.numbers()
         for quantity, product in meant(self.description):
@@ -199,21 +287,25 @@ class Writer:
             path = ("quantity", quantity.name, "rate")
             coef = self.within(near(exact), -MOST_COEF, MOST_COEF, what, *path)
             if coef == 0 and exact != 0:
-                self.refuse(f"{what}: {in_units(exact)} units would be written as 0{self.advice()}", *path)
+                kept = self.keeping(quantity, product)
+                self.refuse(f"{what}: {in_units(exact)} units would be written as 0{kept}", *path)
             if coef != exact:
                 self.say(f"{what}: {in_units(exact)} units in the sheet, written {coef}")
             first, second = (*(numbers[name] for name in product.factors), 0, 0)[:2]
             yield Term(numbers[quantity.name], coef, first, second)
 
-    def advice(self):
-        """Another 'whole' with which the description has a sheet, in words; nothing where none is found."""
-        if self.is_trial:
+    def keeping(self, quantity, product):
+        """What keeps a coefficient that would be written as 0: a larger 'whole' of time or of a factor, or a smaller one of
+        its own quantity."""
+        if not self.advises:
             return ""
-        advised = wholes.found(self.description, has_a_sheet)
-        if advised is None:
-            return ""
-        heading, whole = advised
-        return f": 'whole = {shown(whole)}' under [{heading}] would keep it"
+        adviser = self.adviser("quantity", quantity.name, "rate")
+        factors = [each for each in self.description.quantities if each.name in product.factors]
+        return adviser.words(
+            adviser.time(larger(self.description.time.scale.whole)),
+            adviser.quantity(quantity, smaller(quantity.scale.whole)),
+            *(adviser.quantity(factor, larger(factor.scale.whole)) for factor in factors),
+        )
 
     def amount(self, quantity, wholes):
         return with_unit(shown(wholes * quantity.scale.whole), quantity.scale.unit)
@@ -227,17 +319,35 @@ def beside_its_time(time, step):
     return (Fraction(step, SCALE) * time.scale.whole - time.step) * time.steps
 
 
-def has_a_sheet(description):
-    try:
-        Writer(description, is_trial=True).sheet()
-    except Refused:
-        return False
-    return True
-
-
 def meant(description):
     """The products of the rates, each with the quantity whose rate it is in, in the order of the sheet's terms."""
     return [(quantity, product) for quantity in description.quantities for product in quantity.products]
+
+
+def largest_size(sheet):
+    """The largest start with its radius, without its sign, in units."""
+    return max(abs(start.value or 0) + start.radius for start in sheet.starts)
+
+
+def ratio(sheet):
+    """The ratio of a sheet's first step, by docs/SHEET.md. It serves to try what is advised; what is refused is the
+    planner's to say."""
+    scale = max(SCALE, largest_size(sheet))
+    like = {}
+    for term in sheet.terms:
+        key = term.to, *sorted((term.first, term.second))
+        like[key] = like.get(key, 0) + term.coef
+    sizes = {}
+    for (to, *factors), coef in like.items():
+        sizes.setdefault(to, [0, 0, 0])[sum(factor > 0 for factor in factors)] += abs(coef)
+    rates = (up(SCALE * none, scale) + one + up(scale * two, SCALE) for none, one, two in sizes.values())
+    largest = max(rates, default=0)
+    return up(largest * abs(sheet.step), SCALE)
+
+
+def up(number, divisor):
+    """A whole number divided by another, rounded up."""
+    return -(-number // divisor)
 
 
 def coefficient(description, quantity, product):

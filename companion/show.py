@@ -7,6 +7,7 @@ import io
 from fractions import Fraction
 from math import ceil, floor
 
+import explain
 from clock import length
 from drift import shares
 from refusals import ADVICE, MEANING, kept
@@ -114,20 +115,39 @@ def refusal_words(plan):
         where = f"step {answer.at}, from {begin} to {end}, is "
     return [
         f"{where}refused with {answer.result}: {MEANING[answer.result]}",
+        *(explain.closer(plan.sheet.text().encode(), answer, plan.description) if answer.at else []),
         f"{kept(len(answer.rows))} {ADVICE[answer.result]}",
     ]
 
 
+def window_words(plan, search):
+    """Where there is water enough, with what there is to note; nothing where nothing was searched for."""
+    if search is None:
+        return []
+    offset = plan.description.time.offset
+    notes = [*search.said, *([f"the times are {offset}"] if offset else [])]
+    return [*clear_words(plan, search), *(f"({words})" for words in notes)]
+
+
+def brief(plan, search):
+    """The windows and the refusal alone."""
+    parts = [part for part in (window_words(plan, search), refusal_words(plan)) if part]
+    rows = "1 row" if len(plan.answer.rows) == 1 else f"{len(plan.answer.rows)} rows"
+    return laid_out(parts or [[f"accepted: {rows}; no need is asked for"]])
+
+
 def text(plan, search, subjects, digits=None):
-    """The whole answer as text."""
+    """The whole answer as text: what was asked first, the tables after it."""
     parts = [[plan.description.title]] if plan.description.title else []
+    parts += [part for part in (window_words(plan, search), refusal_words(plan)) if part]
     if plan.answer.rows:
         parts += [table(plan, subject, subject.digits if digits is None else digits) for subject in subjects]
         parts.append(remarks(plan))
-    if search is not None:
-        parts.append([*clear_words(plan, search), *(f"({words})" for words in search.said)])
-    if plan.answer.result:
-        parts.append(refusal_words(plan))
+    return laid_out(parts)
+
+
+def laid_out(parts):
+    """Parts of lines, with an empty line between two."""
     return "\n\n".join("\n".join(lines) for lines in parts) + "\n"
 
 

@@ -2,6 +2,7 @@
 
 import re
 from dataclasses import dataclass
+from difflib import get_close_matches
 from fractions import Fraction
 from math import ceil, floor
 
@@ -39,6 +40,7 @@ UNITS = {
     "km": Unit(Fraction(1000), 1, 0),
     "nmi": Unit(Fraction(1852), 1, 0),
     "ft": Unit(Fraction(3048, 10000), 1, 0),
+    "fathom": Unit(Fraction(18288, 10000), 1, 0),
     "s": Unit(Fraction(1), 0, 1),
     "min": Unit(Fraction(60), 0, 1),
     "h": Unit(Fraction(3600), 0, 1),
@@ -49,29 +51,73 @@ UNITS = {
 }
 
 
+DEGREE = "\N{DEGREE SIGN}"
+# Other names of the same units.
+NAMES = {
+    "m": ("metre", "metres", "meter", "meters"),
+    "ft": ("foot", "feet"),
+    "fathom": ("fathoms",),
+    "s": ("sec", "second", "seconds"),
+    "min": ("minute", "minutes"),
+    "h": ("hour", "hours"),
+    "d": ("day", "days"),
+    "kn": ("kt", "knot", "knots"),
+    "deg": (DEGREE, "\N{MASCULINE ORDINAL INDICATOR}", "degree", "degrees"),
+}
+KNOWN = UNITS | {name: UNITS[short] for short, names in NAMES.items() for name in names}
+
+
+def single(text):
+    """The unit of a name. Capital letters do not matter but in a single one: M is a nautical mile to many, and no m."""
+    return KNOWN.get(text if len(text) == 1 else text.lower())
+
+
 def unit(text):
     """The unit of measure that a text names, as `cm`, `m/s` or `deg/h`; None where it names none."""
     above, slash, below = text.partition("/")
+    over, under = single(above.strip()), single(below.strip())
     if not slash:
-        return UNITS.get(above)
-    if above in UNITS and below in UNITS:
-        return UNITS[above].over(UNITS[below])
-    return None
+        return over
+    return over.over(under) if over and under else None
 
 
 SHORT = 9
 MOST_LETTERS = 80  # Of a number that is written out.
 UNSIGNED = r"(?:\d+\.?\d*|\.\d+)(?:[eE][+-]?\d{1,2})?"
 NUMBER = re.compile(rf"[+-]?{UNSIGNED}", re.ASCII)
+MINUS = "\N{MINUS SIGN}"  # As it is printed; people copy it.
+COMMA = re.compile(r"(?<![\w.,])[+-]?\d+(?:,\d+)+(?:\.\d+)?", re.ASCII)
+OFF_BY = re.compile(r"\s*(?:\N{PLUS-MINUS SIGN}|\+/?-)\s*")
 
 
 def measure(text):
     """A text like `4 cm` as its number and the text of its unit; None where it is no such text."""
+    text = text.strip().replace(MINUS, "-", 1)
     found = NUMBER.match(text)
     if found is None or len(text) > MOST_LETTERS:
         return None
     rest = text[found.end() :].strip()
-    return (Fraction(found.group()), rest) if rest[:1].isalpha() else None
+    return (Fraction(found.group()), rest) if rest[:1].isalpha() or rest.startswith(DEGREE) else None
+
+
+def comma_words(text):
+    """What to say of a number with a comma; None where there is none. It is never read as a point: in 1,852 it may part
+    thousands."""
+    found = COMMA.search(text.replace(MINUS, "-"))
+    if found is None:
+        return None
+    number = found.group()
+    whole, *parts = number.split(",")
+    if len(parts) > 1 or "." in number:
+        return f"{number} has commas: write {number.replace(',', '')}, with a point for the places behind it alone"
+    thousands = f", or {whole}{parts[0]} if thousands are meant" if len(parts[0]) == 3 and whole.strip("+-0") else ""
+    return f"{number} has a comma: write {whole}.{parts[0]}{thousands}"
+
+
+def meant(name, known):
+    """A question after a name that is not known, where one that is known is much like it."""
+    found = get_close_matches(name.lower(), sorted(known), 1)
+    return f": is '{found[0]}' meant?" if found else ""
 
 
 def near(number):

@@ -10,7 +10,7 @@ from pathlib import Path
 import description
 import programs
 from samples import TIDE, edited
-from units import UNITS
+from units import KNOWN
 
 COMMAND = programs.ROOT / "companion" / "passage"
 PAGE = programs.ROOT / "docs" / "PILOT.md"
@@ -57,7 +57,28 @@ class Arguments(Folder):
             ["show", "--digits", "x", "tide.toml"],
         ):
             with self.subTest(arguments=arguments):
-                self.expect(64, "passage", *arguments)
+                self.expect(64, "passage: ", *arguments)
+
+    def test_what_is_said_of_the_arguments(self):
+        for words, *arguments in (
+            ["say what to do: write, show, draw or explain"],
+            ["'plan' is none of write, show, draw and explain", "plan"],
+            ["write needs a description, as in passage write day.toml", "write"],
+            ["show needs a description", "show"],
+            ["draw needs a description and the name of a picture", "draw"],
+            ["draw needs a description and the name of a picture", "draw", "tide.toml"],
+            ["explain needs a file", "explain"],
+            ["there is no use for 'cm' here; a number with its unit", "show", "tide.toml", "--need", "90", "cm"],
+            ["--digits is a whole number from 0 to 12", "show", "--digits", "13", "tide.toml"],
+            ["--digits is a whole number from 0 to 12", "show", "--digits", "x", "tide.toml"],
+            ['as in --need="-50 cm"', "show", "tide.toml", "--need"],
+            ['as in --need="-50 cm"', "show", "tide.toml", "--need", "-5m"],
+            ["--brief and --csv do not go together", "show", "tide.toml", "--csv", "--brief"],
+            ["--brief takes no 'x'", "show", "tide.toml", "--brief=x"],
+        ):
+            with self.subTest(arguments=arguments):
+                done = self.expect(64, f"passage: {words}" if "=\"" not in words else words, *arguments)
+                self.assertNotRegex(done.stderr, "argument|required|usage")
 
     def test_help_names_the_verbs_and_the_statuses(self):
         done = self.run_it("--help")
@@ -76,7 +97,30 @@ class Arguments(Folder):
         (self.folder / "latin.toml").write_bytes(b'title = "\xff"\n')
         self.expect(66, "'missing.toml' cannot be read", "show", "missing.toml")
         self.expect(66, "cannot be read", "explain", ".")
-        self.expect(65, "not text in UTF-8", "show", "latin.toml")
+        self.expect(65, "latin.toml:1: this is not text in UTF-8", "show", "latin.toml")
+
+    def test_files_that_are_something_else(self):
+        """A sheet, an answer, a picture or nothing in the place of a description, and a description in that of a sheet."""
+        self.expect(0, "tide.sheet: written", "write", "tide.toml")
+        self.expect(0, "drawn", "draw", "tide.toml", "a.png", "a.svg")
+        self.put("answer.toml", "row=1\ndegree=2\nvalue=1\nradius=1\nlow=1\nhigh=1\nresult=0\nat=0\n")
+        self.put("empty.toml", " \n\n")
+        (self.folder / "utf16.toml").write_text(TIDE, encoding="utf-16")
+        for name, words in (
+            ("tide.sheet", "this is a sheet, and a description is wanted here"),
+            ("answer.toml", "this is an answer of the planner's"),
+            ("empty.toml", "the file is empty: a description has [time]"),
+            ("a.png", "this is not text (a picture, perhaps)"),
+            ("a.svg", "this is a picture or a page"),
+            ("utf16.toml", "this is text in UTF-16"),
+        ):
+            self.expect(65, f"passage: {name}: {words}", "show", name)
+            self.expect(65, f"passage: {name}: {words}", "write", name, "-")
+        self.put("tide.txt", edited(('step = "10 min"', 'step = "1 h"')))
+        self.expect(7, "step 1, from 08:00 to 09:00, is refused", "explain", "tide.txt")
+        (self.folder / "tide.sheet").rename(self.folder / "sheet.toml")
+        self.expect(0, "accepted: 6 rows", "explain", "sheet.toml")
+        self.expect(65, "the file is empty", "explain", "empty.toml")
 
     def test_a_refused_description_is_named_with_its_line(self):
         self.put("bad.toml", edited(('rate = "m2 * fall"', 'rate = "m2 * fal"')))
@@ -155,7 +199,16 @@ class Writing(Folder):
         self.expect(4, "refused with 4", "show", "tide.toml")
 
     def test_where_nothing_can_be_written(self):
-        self.expect(74, "", "write", "tide.toml", "missing/tide.sheet")
+        self.expect(
+            74,
+            "passage: 'missing/tide.sheet' cannot be written: there is no folder 'missing'\n",
+            "write",
+            "tide.toml",
+            "missing/tide.sheet",
+        )
+        self.expect(74, "there is no folder 'tide.toml'", "write", "tide.toml", "tide.toml/x")
+        long = "x" * 300
+        self.expect(74, f"'{long}' cannot be written: File name too long", "write", "tide.toml", long)
         self.expect(74, "", "draw", "tide.toml", "missing/tide.svg")
 
     def test_where_nobody_reads_or_nothing_fits(self):
@@ -187,6 +240,45 @@ class Showing(Folder):
         self.expect(0, "clearance: at least 0.9 m from", "show", "tide.toml", "--need", "90 cm")
         self.expect(0, "nowhere for certain, for 30 min (3 rows in a row)", "show", "tide.toml", "--need", "3")
         self.expect(0, "for 50 min (5 rows in a row)", "show", "tide.toml", "--need", "3", "--for", "45 min")
+
+    def test_the_windows_alone(self):
+        done = self.expect(0, "clearance: at least 0.5 m from 08:00 to 09:00, for", "show", "tide.toml", "--brief")
+        self.assertNotIn("degree", done.stdout)
+        self.put("refused.toml", edited(('tolerance = "5 cm"', 'tolerance = "4.0002 cm"')))
+        done = self.expect(8, "is refused with 8", "show", "refused.toml", "--brief", "--of", "water")
+        self.assertTrue(done.stdout.startswith("clearance: "))
+        self.assertNotIn("degree", done.stdout)
+        self.put("unasked.toml", edited(("need = 0.5\n", "")))
+        done = self.expect(0, "accepted: 6 rows; no need is asked for\n", "show", "unasked.toml", "--brief")
+
+    def test_an_offset_stands_over_the_times(self):
+        self.put("offset.toml", edited(("begin = 08:00:00", "begin = 2026-11-17 08:00+01:00")))
+        done = self.expect(0, "from 2026-11-17 08:00 to 2026-11-17 09:00,", "show", "offset.toml")
+        self.assertIn("(the times are +01:00)\n", done.stdout)
+        self.assertIn("time (+01:00)  degree", done.stdout)
+        self.expect(0, "row,time (+01:00),degree", "show", "offset.toml", "--csv")
+
+    def test_a_whole_that_serves_the_search(self):
+        for entry, far in (("need = 0.5", "need = 33"), ("base = -1", "base = -4000")):
+            self.put("far.toml", edited((entry, far)))
+            done = self.expect(65, "is past the search's range, -32 m to 32 m: 'whole = ", "show", "far.toml")
+            whole = re.search("'(whole = .*)' in .clearance. would serve", done.stderr).group(1)
+            self.put("far.toml", edited((entry, far), ("[clearance]", f"[clearance]\n{whole}")))
+            self.expect(0, "nowhere for certain", "show", "far.toml", "--brief")
+
+    def test_a_refused_step_says_what_would_pass_and_without_the_second_program_that_it_does_not(self):
+        self.put("refused.toml", edited(('step = "10 min"', 'step = "1 h"')))
+        self.expect(7, "from there a step of 59 min 18.239 s would pass\n", "show", "refused.toml")
+        none = "import programs\ndef second(*given): raise programs.Failed('cargo')\nprograms.second = second"
+        done = self.changed(none, "show", "refused.toml")
+        self.assertEqual((done.returncode, done.stderr), (7, ""))
+        self.assertIn("is refused with 7: the step is too long", done.stdout)
+        self.assertIn("(there is no closer explanation: the second program could not be built or run;", done.stdout)
+        self.assertIn("Take shorter steps", done.stdout)
+        other = "import programs; programs.second = lambda *given: 'result=8\\nat=1\\n'"
+        done = self.changed(other, "show", "refused.toml")
+        self.assertEqual((done.returncode, done.stderr), (7, ""))
+        self.assertIn("(there is no closer explanation: the planner answers 7 at 1, and the second", done.stdout)
 
     def test_the_status_is_the_planners(self):
         self.put("refused.toml", edited(('step = "10 min"', 'step = "1 h"')))
@@ -259,8 +351,8 @@ class Pages(unittest.TestCase):
         entries = set().union(description.QUANTITY_ENTRIES, *description.ENTRIES.values())
         for entry in entries - {"constants", "accuracy", "time", "quantity", "clearance"}:
             self.assertIn(f"`{entry}`", text)
-        for name in UNITS.keys() - {"1"}:
-            self.assertRegex(text, rf"\b{name}\b")
+        for name in KNOWN.keys() - {"1"}:
+            self.assertRegex(text, rf"(?<!\w){name}(?!\w)")
         for path in COMMAND.parent.iterdir():
             if path.name not in ("README.md", "__pycache__"):
                 self.assertIn(f"`{path.name}{'/' * path.is_dir()}`", text)
@@ -272,7 +364,8 @@ class Pages(unittest.TestCase):
             capture_output=True,
             text=True,
         )
-        self.assertIn(f"`{done.stdout.splitlines()[-1]}`", " ".join((programs.ROOT / "README.md").read_text().split()))
+        [sentence] = [line for line in done.stdout.splitlines() if line.startswith("under the keel: ")]
+        self.assertIn(f"`{sentence}`", " ".join((programs.ROOT / "README.md").read_text().split()))
 
     def test_the_pilots_day(self):
         text = PAGE.read_text()
@@ -291,4 +384,4 @@ class Pages(unittest.TestCase):
                             pattern(printed).fullmatch(done.stdout + done.stderr), done.stdout + done.stderr
                         )
                         tried += 1
-        self.assertEqual(tried, 11)
+        self.assertEqual(tried, 17)

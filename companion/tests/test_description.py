@@ -1,11 +1,12 @@
 """Reading a description: what is taken, and what is refused, with its line."""
 
+import random
 import unittest
 from fractions import Fraction
 
 import description
 import rates
-from entries import Lines, Refused
+from entries import Lines, Refused, mended
 from samples import TIDE, edited
 from units import PI, at_least, decimal, measure, near, shown, unit
 
@@ -65,7 +66,8 @@ REFUSALS = [
     ([('length = "1 h"', "steps = 0")], 7, "'steps' is a whole number"),
     ([('length = "1 h"', "steps = 2.5")], 7, "'steps' is a whole number"),
     ([("begin = 08:00:00", 'begin = "eight"')], 5, "'begin' is a time"),
-    ([("begin = 08:00:00", "begin = 2026-11-17T08:00:00Z")], 5, "'begin' is a time"),
+    ([("begin = 08:00:00", "begin = 20.30")], 5, "'begin' is a time"),
+    ([("begin = 08:00:00", 'begin = "2026-02-30 08:00"')], 5, "'begin' is a time"),
     (
         [('unit = "h"', 'unit = "m"'), ('step = "10 min"', "step = 0.1"), ('length = "1 h"', "steps = 3")],
         5,
@@ -111,7 +113,65 @@ REFUSALS = [
     ([('rate = "m2 * fall"', f'rate = "{"1" * 5000} * fall"')], 19, "a number of more than 80 letters"),
     ([('title = "a tide"', "title = 3")], 1, "'title' is a text of one line"),
     ([('title = "a tide"', "accuracy = 3"), ("[accuracy]\ntail = 10\n", "")], 1, "'accuracy' is a table"),
-    ([('title = "a tide"', 'title = "a tide')], 1, "this is not TOML"),
+    ([("start = 1.60", "stat = 1.60\nzzz = 1")], 30, "'stat' is no entry of a quantity: is 'start' meant?"),
+    ([("start = 1.60", "Good_To = 0")], 30, "'Good_To' is no entry of a quantity: is 'good_to' meant?"),
+    ([("[accuracy]", "[Accuracy]")], 9, "'Accuracy' is no entry of a description: is 'accuracy' meant?"),
+    ([('rate = "m2 * fall"', 'rate = "m2 * fal"')], 19, "of this description: is 'fall' meant?"),
+    ([("start = 1.60", 'start = "1,6 m"')], 30, "'start': 1,6 has a comma: write 1.6"),
+    ([("start = 1.60", 'start = "1,852 m"')], 30, "1,852 has a comma: write 1.852, or 1852 if thousands are meant"),
+    ([("start = 1.60", 'start = "0,852 m"')], 30, "'start': 0,852 has a comma: write 0.852"),
+    ([("start = 1.60", 'start = "1,000,000 mm"')], 30, "1,000,000 has commas: write 1000000"),
+    ([("start = 1.60", 'start = "±1 m"')], 30, "not '±1 m'"),
+    ([("start = 1.60", 'start = "1 M"')], 30, "'M' is no unit that is known here"),
+    ([('good_to = "4 cm"', 'good_to = "±-4 cm"')], 31, "'good_to' is 0 or more"),
+    ([('good_to = "4 cm"', 'good_to = "± 0,04"')], 31, "0,04 has a comma: write 0.04"),
+    ([('m2 = "28.9841042 deg/h"', 'm2 = "28,98 °/h"')], 13, "'m2': 28,98 has a comma: write 28.98"),
+    ([('rate = "m2 * fall"', 'rate = "0,5 * fall"')], 19, "0,5 has a comma: write 0.5"),
+    ([('rate = "m2 * fall"', 'rate = "m2 \N{EN DASH} fall"')], 19, "is a dash and no minus"),
+    ([('rate = "m2 * fall"', 'rate = "fall / 2"')], 19, "in the place of dividing, multiply"),
+]
+
+WEIGHTS = "weights = { water = 1, rise = -0.5 }"
+# Slips that leave a text which is no TOML: what is changed, the line that must be named, what stands there, what is said.
+SLIPS = [
+    ("start = 1.60", "start = 1,60", 30, "1,60 has a comma: write 1.60"),
+    ("start = 1.60", "start = -1,852 # m", 30, "-1,852 has a comma: write -1.852, or -1852 if thousands are meant"),
+    ("start = 1.60", "start = 1.60\nstart = 2", 31, "'start' stands twice under one heading, first on line 30"),
+    ("[clearance]", "[quantity.rise]", 37, "the heading [quantity.rise] stands twice, first on line 15"),
+    ("[clearance]", "[time] # again", 37, "the heading [time] stands twice, first on line 3"),
+    (WEIGHTS, "weights = { water = 1, water = 2 }", 38, "'water' stands twice in this line"),
+    (WEIGHTS, "weights = { water = 1,5 }", 38, "1,5 has a comma: write 1.5"),
+    (WEIGHTS, "weights = { water: 1 }", 38, "between { and } stand names, each with = and a number"),
+    (WEIGHTS, "weights = { water = 1", 38, "between { and } stand names, each with = and a number"),
+    ('title = "a tide"', "title = “a tide”", 1, "the quotes “ ” are typographic: write straight ones"),
+    ('title = "a tide"', "title = ‘a tide’", 1, "the quotes ‘ ’ are typographic: write straight ones"),
+    ('title = "a tide"', 'title = "a tide', 1, "a quote is missing"),
+    ('title = "a tide"', 'title = a tide"', 1, "a quote is missing"),
+    ('title = "a tide"', "title = 'a tide", 1, "a quote is missing"),
+    ('title = "a tide"', "title = a tide", 1, 'write title = "a tide"'),
+    ('title = "a tide"', r'title = "C:\quay"', 1, "a \\ has to be doubled"),
+    ("start = 1.60", "start 1.60", 30, "'=' is missing, between a name and what it is"),
+    ("start = 1.60", "start", 30, "'=' is missing, between a name and what it is"),
+    ("start = 1.60", "start: 1.60", 30, "an entry has = and no colon: write start = ..."),
+    ("start = 1.60", "= 1.60", 30, "before '=' the name is missing"),
+    ("start = 1.60", "start = ", 30, "behind 'start =' a number or a text is missing"),
+    ("start = 1.60", "start =\N{NO-BREAK SPACE}1.60", 30, "a space that is none, a no-break space perhaps"),
+    ("start = 1.60", "start = \N{MINUS SIGN}1.60", 30, "a dash that is no minus: write a plain -"),
+    ("start = 1.60", "start = .5", 30, ".5 has no digit before the point: write 0.5"),
+    ("start = 1.60", "start = -5.", 30, "-5. has no digit behind the point: write -5.0"),
+    ("start = 1.60", "start = 01.5", 30, "01.5 has a 0 too many in front"),
+    ("start = 1.60", "start = 1.60;", 30, "1.60; is no number: one is 1.60, or with a unit and between quotes"),
+    ("start = 1.60", 'start = "1 m" m', 30, "behind 'start =' stands one number or one text"),
+    ("start = 1.60", "[quantity.water", 30, "a heading stands between [ and ]"),
+    ("start = 1.60", "[]", 30, "between [ and ] the name is missing"),
+    ("start = 1.60", "// the gauge", 30, "this is no entry of a description"),
+    ('step = "10 min"', "step = 10 min", 6, 'write step = "10 min"'),
+    ('step = "10 min"', "step = 10 min  # a comment, 1,5", 6, 'write step = "10 min"'),
+    ('good_to = "4 cm"', "good_to = ±4 cm", 31, 'write good_to = "±4 cm"'),
+    ('rate = "m2 * fall"', "rate = m2 * fall", 19, 'write rate = "m2 * fall"'),
+    ("begin = 08:00:00", "begin = 25:30", 5, "'begin' is a time, as 20:30"),
+    ("begin = 08:00:00", "begin = 20h30", 5, "'begin' is a time, as 20:30"),
+    ("\nm2 * fall\n'''", "\nm2 * fall\n", 33, "the text that begins with ''' has no ''' at its end"),
 ]
 
 
@@ -122,6 +182,34 @@ class Refusals(unittest.TestCase):
                 found, why = refusal(*edits)
                 self.assertIn(words, why)
                 self.assertEqual(found, line)
+
+    def test_a_slip_is_told_with_its_line_and_what_stands_there(self):
+        for old, new, line, words in SLIPS:
+            with self.subTest(new=new):
+                found, why = refusal((old, new))
+                self.assertIn(words, why)
+                self.assertEqual(found, line)
+                stands = edited((old, new)).split("\n")[line - 1]
+                self.assertIn(f"in '{' '.join(stands.split())}': ", why)
+                self.assertNotIn("TOML", why)
+
+    def test_a_long_line_is_cut(self):
+        _, why = refusal(("start = 1.60", f"start = 1,6 # {'very ' * 30}"))
+        self.assertIn("very very v...': 1,6 has a comma", why)
+
+    def test_whatever_is_cut_off_or_put_in_is_refused_in_words(self):
+        """Each start of a description, and each with a sign too many: taken, or refused with a line that is there."""
+        rng, refused = random.Random(1), 0
+        for _ in range(600):
+            place = rng.randrange(len(TIDE))
+            text = rng.choice([TIDE[:place], TIDE[:place] + rng.choice("\"'[]{}=,:#\\\n 7x“") + TIDE[place:]])
+            try:
+                description.read(text)
+            except Refused as caught:
+                refused += 1
+                self.assertNotIn("TOML", caught.why)
+                self.assertIn(caught.line, [None, *range(1, text.count("\n") + 2)])
+        self.assertGreater(refused, 300)
 
     def test_an_empty_clearance(self):
         with self.assertRaises(Refused) as caught:
@@ -211,9 +299,51 @@ class Reading(unittest.TestCase):
         self.assertIsNone(description.read(edited(("base = -1", 'sill = "none"'))).clearance.sill)
 
     def test_a_clock_in_words(self):
-        for begin in ('"08:00"', "08:00:00", "2026-11-17T08:00:00"):
+        for begin in ('"08:00"', "08:00:00", "08:00", "8:00  # low water", "2026-11-17T08:00:00", "2026-11-17 08:00"):
             read = description.read(edited(("begin = 08:00:00", f"begin = {begin}")))
             self.assertEqual((read.time.begin.hour, read.time.dated), (8, begin.startswith("2026")))
+            self.assertEqual((read.time.begin.minute, read.time.begin.tzinfo, read.time.offset), (0, None, ""))
+
+    def test_an_offset_is_kept_and_no_time_is_turned(self):
+        for begin, offset in [
+            ("2026-11-17T08:00:00+01:00", "+01:00"),
+            ("2026-11-17 08:00-03:30", "-03:30"),
+            ("2026-11-17T08:00Z", "UTC"),
+            ("2026-11-17T08:00:00+00:00", "UTC"),
+            ('"08:00+01:00"', "+01:00"),
+        ]:
+            time = description.read(edited(("begin = 08:00:00", f"begin = {begin}"))).time
+            self.assertEqual((time.begin.hour, time.begin.minute, time.begin.tzinfo, time.offset), (8, 0, None, offset))
+
+    def test_a_time_in_a_text_or_a_comment_is_left_alone(self):
+        """What looks like a bare time is mended only where TOML cannot read it."""
+        rate = "rate = '''\nm2 * fall\n'''"
+        text = edited(('title = "a tide"', 'title = "begin = 08:00" # begin = 08:00'), ("begin = 08:00:00", "begin = 20:30"))
+        self.assertEqual(description.read(text).title, "begin = 08:00")
+        self.assertEqual(mended(text).count('"20:30"'), 1)
+        inside = edited((rate, "rate = '''\nbegin = 08:00\n'''"), ("begin = 08:00:00", "begin = 20:30"))
+        self.assertIn("\nbegin = 08:00\n", mended(inside))
+        self.assertEqual(mended(TIDE), TIDE)
+
+    def test_signs_as_they_are_printed(self):
+        for good_to in ('"±4 cm"', '"+-4 cm"', '"+/- 4 cm"', '"± 0.04"', '"4\N{NO-BREAK SPACE}cm"', '"0.04 Metres"'):
+            read = description.read(edited(('good_to = "4 cm"', f"good_to = {good_to}")))
+            self.assertEqual(read.quantities[2].good_to, Fraction(1, 25))
+        read = description.read(edited(('tolerance = "5 cm"', 'tolerance = "±5 cm"')))
+        self.assertEqual(read.quantities[2].tolerance, Fraction(1, 20))
+        read = description.read(edited(("start = 1.60", 'start = "\N{MINUS SIGN}160 cm"')))
+        self.assertEqual(read.quantities[2].start, Fraction(-8, 5))
+        for degrees in ("28.9841042 °/h", "28.9841042°/h", "28.9841042 º / h", "28.9841042 Degrees/hour"):
+            read = description.read(edited(('m2 = "28.9841042 deg/h"', f'm2 = "{degrees}"')))
+            self.assertEqual(read.quantities[0].products, description.read(TIDE).quantities[0].products)
+
+    def test_tabs_and_other_spaces(self):
+        read = description.read(edited(('title = "a tide"', 'title\t=\t"a\ttide\N{NO-BREAK SPACE}here"')))
+        self.assertEqual(read.title, "a tide here")
+
+    def test_which_numbers_are_in_the_sheets_own_units(self):
+        read = description.read(edited(("start = 1.60", "start = { units = 5 }")))
+        self.assertEqual([each.in_units for each in read.quantities], [set(), set(), {"start"}])
 
 
 class Rates(unittest.TestCase):
@@ -231,6 +361,11 @@ class Rates(unittest.TestCase):
 
     def test_like_products_stay_apart_in_their_order(self):
         self.assertEqual(self.products("x*y - y*x + x*y"), [(1, ("x", "y")), (-1, ("y", "x")), (1, ("x", "y"))])
+
+    def test_signs_as_they_are_printed(self):
+        self.assertEqual(self.products("−x·y + 2.5 × k²"), [(-1, ("x", "y")), (Fraction(5, 18), ())])
+        self.assertEqual(self.products("x² − k³ ⋅ y"), [(1, ("x", "x")), (Fraction(-1, 27), ("y",))])
+        self.assertEqual(self.products("x\N{NO-BREAK SPACE}*\ty"), [(1, ("x", "y"))])
 
     def test_nothing_but_0_is_no_product(self):
         self.assertEqual(self.products("0"), [])
@@ -251,6 +386,24 @@ class Numbers(unittest.TestCase):
         )
         self.assertEqual([unit(name).size for name in ("s", "min", "h", "d")], [1, 60, 3600, 86400])
         self.assertEqual((unit("deg").size, unit("rad").size, unit("1").size), (PI / 180, 1, 1))
+
+    def test_names_of_units(self):
+        for short, names in {
+            "m": ("metre", "metres", "meter", "meters", "Metres", "METERS"),
+            "ft": ("foot", "feet", "FT"),
+            "s": ("sec", "second", "seconds"),
+            "min": ("minute", "minutes", "Min"),
+            "h": ("hour", "hours"),
+            "d": ("day", "days"),
+            "kn": ("kt", "knot", "Knots"),
+            "deg": ("°", "º", "degree", "degrees"),
+            "m/s": ("metres/second", "m / s"),
+        }.items():
+            for name in names:
+                self.assertEqual(unit(name), unit(short), name)
+        self.assertEqual((unit("fathom").size, unit("fathoms").size), (6 * unit("ft").size,) * 2)
+        for name in ("M", "H", "nm", "mile", "", "m/", "/h", "m/s/s"):
+            self.assertIsNone(unit(name), name)
 
     def test_pi(self):
         """By Machin's formula, 16 arctan(1/5) - 4 arctan(1/239)."""

@@ -1,6 +1,7 @@
 """Explanations: the line, the step, the quantity and by how much, from the planner and the second program; never a
 verdict where the two differ."""
 
+import re
 import unittest
 from unittest import mock
 
@@ -78,6 +79,7 @@ class Sheets(unittest.TestCase):
     def test_every_quantity_that_is_to_blame(self):
         told, _ = words((SHEETS / "tide-by-feedback.sheet").read_bytes())
         for number in (1, 2):
+            self.assertIn("with tol=864285 this step would pass\n", told)
             self.assertIn(
                 f"the radius of quantity {number} would go from 0.0473 (794387 units) to 0.0515 (864285", told
             )
@@ -109,6 +111,37 @@ class Descriptions(unittest.TestCase):
             told,
             r"the radius of water would go from 0\.0400\d+ m to 0\.0400\d+ m, and the tolerance is 0\.0400\d+ m: 0\.0+\d\d m too much",
         )
+
+    def test_the_tolerance_that_is_told_lets_the_step_pass(self):
+        for more in ([], [("start = -1.8", 'start = -1.8\nwhole = 3\ntolerance = "12.0006 cm"')]):
+            edits = [*more, ('tolerance = "5 cm"', 'tolerance = "4.0002 cm"')]
+            read = description.read(edited(*edits))
+            sheet = Writer(read).sheet().text().encode()
+            told, _ = words(sheet, read)
+            at = programs.plan(sheet).at
+            tolerances = dict(
+                reversed(found) for found in re.findall(r"(0\.\d+ m) for (\w+)", told.split("with a tolerance of")[1])
+            )
+            self.assertEqual(set(tolerances), {"water", "rise"} if more else {"water"})
+            wider = edited(
+                *((old, re.sub('tolerance = ".*"', f'tolerance = "{tolerances["rise"]}"', new)) for old, new in more),
+                ('tolerance = "5 cm"', f'tolerance = "{tolerances["water"]}"'),
+            )
+            answer = programs.plan(Writer(description.read(wider)).sheet().text().encode())
+            self.assertTrue(answer.result == 0 or answer.at > at, (answer.result, answer.at, at))
+
+    def test_the_whole_that_is_told_lets_the_step_pass(self):
+        told, result = self.told(("start = 1.60", "start = 31.99"))
+        self.assertEqual(result, 6)
+        self.assertIn("with 'whole = 2' for water this step would pass\n", told)
+        _, result = self.told(("start = 1.60", "start = 31.99\nwhole = 2"))
+        self.assertEqual(result, 0)
+
+    def test_a_whole_that_does_not_help_is_not_told(self):
+        """The tolerance in the sheet's own units is too strict for the larger whole, or every step is too long."""
+        told, result = self.told(("start = 1.60", "start = 31.99"), ("m2 * fall\n", "m2 * fall + 3 * water\n"))
+        self.assertEqual(result, 6)
+        self.assertNotIn("this step would pass", told)
 
     def test_a_step_that_is_too_long(self):
         told, result = self.told(('step = "10 min"', 'step = "1 h"'))

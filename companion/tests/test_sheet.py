@@ -1,14 +1,17 @@
 """A description's sheet: the roundings, the ranges, and that a sheet which says something else is found out."""
 
 import random
+import re
 import unittest
 from dataclasses import fields, replace
 from fractions import Fraction
 
 import description
+import explain
+import programs
 from entries import Refused
 from samples import TIDE, edited
-from sheet import Sheet, Start, Term, Writer, differences, parsed
+from sheet import Sheet, Start, Term, Writer, differences, parsed, ratio
 from units import SCALE, near
 
 PLAIN = """\
@@ -78,7 +81,7 @@ class Roundings(unittest.TestCase):
         self.assertEqual(line, 10)
         self.assertEqual(
             why,
-            "x, the rate's '- 0.00000002 * x': -0.34 units would be written as 0: 'whole = 2' under [time] would keep it",
+            "x, the rate's '- 0.00000002 * x': -0.34 units would be written as 0: 'whole = 2' in [time] would serve",
         )
         advised = PLAIN.format(**USUAL | {"rate": "x - 0.00000002 * x"}).replace("[time]", "[time]\nwhole = 2")
         self.assertEqual(Writer(description.read(advised)).sheet().terms, (Term(1, 2 * SCALE, 1, 0), Term(1, -1, 1, 0)))
@@ -89,7 +92,7 @@ class Roundings(unittest.TestCase):
         rates = {"rate": "16 * x - 0.00000002"}
         line, why = refusal(PLAIN.format(**USUAL | rates))
         self.assertEqual(line, 10)
-        self.assertTrue(why.endswith("would be written as 0: 'whole = 0.5' under [quantity.x] would keep it"), why)
+        self.assertTrue(why.endswith("would be written as 0: 'whole = 0.5' for x would serve"), why)
         advised = PLAIN.format(**USUAL | rates).replace("[quantity.x]", "[quantity.x]\nwhole = 0.5")
         self.assertEqual(Writer(description.read(advised)).sheet().terms[1].coef, -1)
         line, why = refusal(PLAIN.format(**USUAL | {"rate": "16 * x - 0.00000002 * x"}))
@@ -103,7 +106,11 @@ class Roundings(unittest.TestCase):
         self.assertIn("no reading", said[0])
 
     def test_the_strictest_tolerance_serves_all(self):
-        text = edited(("start = -1.8", 'start = -1.8\ntolerance = "1 mm"'), ("start = 1.60", "start = 1.60\nwhole = 4"))
+        text = edited(
+            ("start = -1.8", 'start = -1.8\ntolerance = "1 mm"'),
+            ("start = 1.60", "start = 1.60\nwhole = 4"),
+            ('good_to = "4 cm"', "good_to = 0"),
+        )
         writer = Writer(description.read(text))
         self.assertEqual(writer.sheet().tol, 16777)
         told = [words for words in writer.said if words.startswith("tol: for")]
@@ -135,13 +142,14 @@ class Ranges(unittest.TestCase):
             (2, "a step of 0.00000001 is shorter than a unit", {"step": "0.00000001"}),
             (3, "1 to 240", {"steps": 241}),
             (5, "2 to 16777216", {"tail": 1}),
-            (7, "-536870912 to 536870912", {"start": "32.1"}),
-            (7, "-536870912 to 536870912", {"start": "-32.1"}),
-            (8, "0 to 536870912", {"good_to": "32.1"}),
-            (9, "1 to 536870912", {"tolerance": "0.00000001"}),
-            (9, "1 to 536870912", {"tolerance": "0"}),
-            (9, "1 to 536870912", {"tolerance": "32.1"}),
-            (10, "-268435456 to 268435456", {"rate": "16.1 * x"}),
+            (7, "x, start: 32.1 is past the sheet's range, -32 to 32", {"start": "32.1"}),
+            (7, "x, start: -32.1 is past the sheet's range, -32 to 32", {"start": "-32.1"}),
+            (8, "x, good_to: 32.1 is past the sheet's range, 0 to 32", {"good_to": "32.1"}),
+            (8, "x, good_to: 32 with what the start is moved by is past", {"start": "0.1", "good_to": "32"}),
+            (9, "x, tolerance: 0.00000001 is past the sheet's range, about 0.0000000596", {"tolerance": "0.00000001"}),
+            (9, "x, tolerance: 0 is past the sheet's range", {"tolerance": "0"}),
+            (9, "x, tolerance: 32.1 is past the sheet's range, about", {"tolerance": "32.1"}),
+            (10, "x, the rate's '16.1 * x' is 16.1 for the sheet's wholes, and a sheet takes 16", {"rate": "16.1 * x"}),
         ]:
             with self.subTest(changed=changed):
                 found, why = refusal(PLAIN.format(**USUAL | changed))
@@ -155,7 +163,7 @@ class Ranges(unittest.TestCase):
             {"steps": 240},
             {"start": 32},
             {"start": -32},
-            {"good_to": 32},
+            {"good_to": 32, "tolerance": 32},
             {"tolerance": 32},
             {"rate": "16 * x"},
             {"rate": "-16"},
@@ -189,6 +197,132 @@ class Ranges(unittest.TestCase):
         text = PLAIN.format(**USUAL).replace("tolerance = 0.1\n", "")
         line, why = refusal(text)
         self.assertEqual((line, why[:27]), (6, "no quantity has a tolerance"))
+
+
+class Radii(unittest.TestCase):
+    """A start that is less certain than a row may be."""
+
+    def test_both_numbers_and_whose_tolerance_it_is(self):
+        for good_to, tolerance, told in [
+            ("0.2", "0.1", "x, good_to: 0.2 (3355444 units) is more than the sheet's tolerance, 0.1 (1677721 units)"),
+            ("0.1", "0.1", "x, good_to: 0.1 (1677722 units) is more than the sheet's tolerance, 0.1 (1677721 units)"),
+            ("0.125", "0.125", "not refused"),
+        ]:
+            line, why = refusal(PLAIN.format(**USUAL | {"good_to": good_to, "tolerance": tolerance}))
+            self.assertEqual((line, why[: len(told)]), (None if told == "not refused" else 8, told))
+
+    def test_what_the_start_is_moved_by_counts(self):
+        units = {"tolerance": "{ units = 100 }", "good_to": "{ units = 100 }"}
+        self.assertEqual(refusal(PLAIN.format(**USUAL | units))[1], "not refused")
+        self.assertIn("(101 units)", refusal(PLAIN.format(**USUAL | units | {"start": "0.1"}))[1])
+
+    def test_a_quantity_without_a_tolerance_has_the_strictest(self):
+        exact = "good_to = 0\nrate = \"m2 * fall\""
+        line, why = refusal(edited((exact, exact.replace("0", "1"))))
+        self.assertEqual(line, 18)
+        self.assertIn("rise, good_to: 1 m (16777217 units) is more than the sheet's tolerance, 0.05 m of water, the", why)
+        self.assertNotIn("for rise", why)
+        _, why = refusal(edited((exact, exact.replace("0", "1\nwhole = 2"))))
+        self.assertIn("0.05 m of water, the strictest, for rise about 0.099999905 m (838860 units)", why)
+
+    def test_the_planner_would_refuse_the_first_step(self):
+        """No step makes a radius smaller: where it is over the tolerance at the start, the first step is refused."""
+        rng = random.Random(2)
+        for _ in range(9):
+            radius = rng.randint(2, 1 << 20)
+            sheet = written(rate=rng.choice(["x", "-x", "0"]))[0]
+            sheet = replace(sheet, tol=radius - 1, starts=(Start(SCALE, radius),))
+            answer = programs.plan(sheet.text().encode())
+            self.assertEqual((answer.result, answer.at), (8, 1))
+
+
+def advised(text):
+    """A description with what its refusal advises: a 'whole' of a quantity, of all in a unit or of [time], and a step."""
+    _, why = refusal(text)
+    step = re.search(r"'step = (.*?)',", why)
+    if step:
+        text = re.sub("^step = .*", f"step = {step.group(1)}", text, flags=re.MULTILINE)
+    for whole, of in re.findall(r"'whole = (\S+)' (for \w+|in \[time\])", why):
+        headings = [of.removeprefix("in ")] if of.startswith("in") else [f"[quantity.{of.removeprefix('for ')}]"]
+        if headings == ["[quantity.every]"]:
+            headings = re.findall(r"^\[quantity\..*\]", text, flags=re.MULTILINE)
+        for heading in headings:
+            text = text.replace(heading, f"{heading}\nwhole = {whole}")
+    return text
+
+
+class Advice(unittest.TestCase):
+    """What is advised is followed, and then the planner takes the first step."""
+
+    def follow(self, why, text):
+        self.assertRegex(refusal(text)[1], why)
+        answer = programs.plan(Writer(description.read(advised(text))).sheet().text().encode())
+        self.assertTrue(answer.rows, (answer.result, refusal(text)[1]))
+
+    def test_starts_and_tolerances(self):
+        self.follow("40 m is past .*: 'whole = 2' for water would serve$", edited(("start = 1.60", "start = 40")))
+        self.follow("4000 m is past .*: 'whole = 200' for water", edited(("start = 1.60", "start = 4000")))
+        self.follow("40 m is past .*: 'whole = 2' for water", edited(('tolerance = "5 cm"', "tolerance = 40")))
+        self.follow("'whole = 0.1' for x", PLAIN.format(**USUAL | {"tolerance": "0.00000001", "rate": "0"}))
+        self.follow("'whole = 50' for x", PLAIN.format(**USUAL | {"start": 1000, "rate": "0.1 * x"}))
+
+    def test_a_whole_for_every_quantity_where_one_does_not_serve(self):
+        """With a larger whole of one of the two alone, the rate of the other is too fast for the step."""
+        long = ('step = "10 min"', 'step = "50 min"'), ('length = "1 h"', "steps = 2")
+        swing = edited(("start = -1.8", "start = -40"), *long)
+        self.follow("-40 m is past .*: 'whole = 2' for every quantity in m would serve$", swing)
+
+    def test_a_step_longer_than_the_whole(self):
+        long = ('step = "10 min"', 'step = "25 h"'), ('length = "1 h"', "steps = 3")
+        self.follow("a step of 25 h is longer .*, 1 h: a shorter step, 'step = \"30 min\"', would serve$", edited(*long))
+        still = re.sub("m2 \\* (rise|fall)", "0.001", edited(*long))
+        self.follow("longer than the whole .*, 1 h: 'whole = 50' in \\[time\\] would serve$", still)
+        self.follow("'step = 0.5',", PLAIN.format(**USUAL | {"step": "1.5"}))
+        self.follow("'step = -0.5',", PLAIN.format(**USUAL | {"step": "-1.5"}))
+
+    def test_a_time_that_is_too_long_for_the_shorter_steps(self):
+        text = edited(('step = "10 min"', 'step = "25 h"'), ('length = "1 h"', "steps = 30"))
+        self.assertIn("'step = \"30 min\"', of which a sheet has 240, would serve", refusal(text)[1])
+
+    def test_a_step_of_too_few_units(self):
+        self.follow("shorter than a unit .*'whole = 0.0002' in", PLAIN.format(**USUAL | {"step": "0.00000001"}))
+        self.follow("cannot be rounded .*'whole = 0.02' in", PLAIN.format(**USUAL | {"step": "0.00012", "steps": 240}))
+
+    def test_a_coefficient(self):
+        most = "is 20 for the sheet's wholes, and a sheet takes 16 at most"
+        self.follow(f"{most}: 'whole = 0.5' in .time. would", PLAIN.format(**USUAL | {"rate": "20 * x", "step": "0.01"}))
+        self.follow("'step = 0.02', with 'whole = 0.5' in", PLAIN.format(**USUAL | {"rate": "20 * x"}))
+        faster = {"rate": "20", "step": "0.9", "start": 30}
+        self.follow(f"{most}: 'whole = 50' for x would serve$", PLAIN.format(**USUAL | faster))
+
+    def test_what_cannot_be_mended_so_is_not_advised(self):
+        for changed in [
+            {"tolerance": "0"},
+            {"good_to": "32.1"},
+            {"start": "{ units = 536870913 }"},
+            {"start": 40, "tolerance": "{ units = 100000 }", "good_to": "{ units = 200000 }"},
+        ]:
+            self.assertIn("past the sheet's range", refusal(PLAIN.format(**USUAL | changed))[1])
+            if "units = 1" not in str(changed):
+                self.assertNotIn("would serve", refusal(PLAIN.format(**USUAL | changed))[1])
+
+    def test_another_fault_is_no_hindrance(self):
+        text = edited(("start = 1.60", "start = 40"), ('rate = "m2 * fall"', 'rate = "17 * fall"'))
+        self.assertIn("'whole = 2' for water would serve", refusal(text)[1])
+
+    def test_the_ratio_is_the_second_programs(self):
+        rng, asked = random.Random(3), 0
+        while asked < 25:
+            try:
+                sheet = Writer(random_description(rng), advises=False).sheet()
+            except Refused:
+                continue
+            said = explain.reading(programs.second("explain", sheet.text().encode()))
+            if (said.result, said.at) == (7, 1):
+                self.assertEqual(ratio(sheet), int(said.groups[0]["ratio"]))
+                asked += 1
+            elif said.result not in (4, 6):
+                self.assertLessEqual(ratio(sheet), SCALE // 2)
 
 
 def random_decimal(rng, least, most):
@@ -257,9 +391,12 @@ class RandomDescriptions(unittest.TestCase):
         while taken < self.COUNT:
             read = random_description(rng)
             try:
-                sheet = Writer(read).sheet()
+                sheet = Writer(read, advises=False).sheet()
             except Refused as refused:
-                self.assertRegex(refused.why, "past the sheet's range|would be written as 0")
+                self.assertRegex(
+                    refused.why,
+                    "past the sheet's range|a sheet takes 16 at most|no step would pass|would be written as 0",
+                )
                 continue
             taken += 1
             self.assertEqual(parsed(sheet.text()), sheet)

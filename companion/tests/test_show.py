@@ -149,6 +149,36 @@ class Tables(unittest.TestCase):
         self.search = None
         self.assertNotIn("at least 0.5", self.text("water"))
 
+    def test_what_was_asked_stands_first(self):
+        told = self.text("water")
+        parts = ["a tide\n", "\n\nclearance: at least", "\n(a word)\n\nstep 2, ", "\n\nwater, over the sill (m)\n"]
+        parts.append("\n\n(rounded outward")
+        places = [told.index(part) for part in parts]
+        self.assertEqual(places, sorted(places))
+        self.assertTrue(told.startswith("a tide\n\nclearance"))
+
+    def test_brief(self):
+        told = show.brief(self.plan, self.search)
+        self.assertTrue(told.startswith("clearance: at least 0.5 m from 08:00 to 08:10,"))
+        self.assertIn("(a word)\n\nstep 2, from 08:10 to 08:20, is refused with 8", told)
+        for words in ("a tide", "degree", "rounded outward"):
+            self.assertNotIn(words, told)
+        self.plan = plan_of(TIDE, Answer(self.plan.answer.rows, 0, 0))
+        self.assertEqual(show.brief(self.plan, None), "accepted: 1 row; no need is asked for\n")
+
+    def test_an_offset_is_told_with_the_windows(self):
+        self.plan = plan_of(edited(("begin = 08:00:00", 'begin = "08:00-03:30"')), parsed(ANSWER))
+        told = self.text("water")
+        self.assertIn("(a word)\n(the times are -03:30)\n", told)
+        self.assertIn("time (-03:30)  degree", told)
+
+    def test_without_a_closer_explanation_the_answer_is_told_all_the_same(self):
+        """Here the answer is made up, and the second program takes all steps."""
+        told = self.text("water")
+        self.assertIn("(there is no closer explanation: the planner answers 8 at 2, and the second program 0", told)
+        self.assertIn("The row before it holds. Allow a larger tolerance", told)
+        self.assertIn("2.000   0.050", told)
+
     def test_a_refusal_in_words_with_what_to_do(self):
         told = self.text("water")
         self.assertIn(
