@@ -9,6 +9,7 @@ from fractions import Fraction
 from functools import reduce
 
 import rates
+import valid
 from entries import Lines, Refused, parse
 from units import SCALE, UNITS, Unit, measure, unit
 
@@ -18,7 +19,7 @@ ENTRIES = {
     ("accuracy",): {"tail"},
     ("clearance",): {"about", "unit", "whole", "weights", "base", "need", "for", "digits", "sill"},
 }
-QUANTITY_ENTRIES = {"about", "unit", "whole", "start", "good_to", "tolerance", "rate", "digits", "sill"}
+QUANTITY_ENTRIES = {"about", "unit", "whole", "start", "good_to", "tolerance", "rate", "digits", "sill", "valid"}
 NAME = re.compile(r"[A-Za-z_]\w*", re.ASCII)
 LEAST_TAIL = 2
 DIGITS = 3
@@ -40,7 +41,7 @@ class Scale:
 @dataclass(frozen=True)
 class Quantity:
     """A quantity. Its start (None: no reading), how good that is and its tolerance (None: not given) are in wholes; its
-    sill (None: it has none), which is only drawn, is in its unit."""
+    sill (None: it has none), which is only drawn, is in its unit, and so is the range in which its equation holds."""
 
     name: str
     about: str
@@ -51,6 +52,7 @@ class Quantity:
     products: tuple
     digits: int
     sill: Fraction | None
+    valid: valid.Range | None
 
 
 @dataclass(frozen=True)
@@ -295,6 +297,7 @@ class Reader:
             self.products(table, path, constants, names),
             self.digits(table, path),
             self.sill(table, scale, path, NO_SILL),
+            self.valid(table, scale, path, start),
         )
 
     def start(self, table, scale, path):
@@ -318,6 +321,26 @@ class Reader:
     def sill(self, table, scale, path, otherwise):
         found = table.get("sill", otherwise)
         return None if found == NO_SILL else self.in_unit(found, scale, (*path, "sill"))
+
+    def valid(self, table, scale, path, start):
+        """The range in which the quantity's equation holds; its start, where there is a reading, lies within."""
+        if "valid" not in table:
+            return None
+        entry = (*path, "valid")
+        texts = valid.ends(self.text(table, entry, ""))
+        if texts is None:
+            self.refuse("'valid' is a range: \"0 m to 8 m\", \"0 m or more\" or \"8 m or less\"", *entry)
+        least, most = (None if text is None else self.in_unit(plain(text), scale, entry) for text in texts)
+        found = valid.Range(least, most, scale.unit)
+        if None not in (least, most) and most < least:
+            self.refuse(f"'valid' goes {found.words()}: the smaller number stands first", *entry)
+        if start is not None and not found.holds(start * scale.whole, start * scale.whole):
+            self.refuse(
+                f"the start of {path[-1]} lies where its equation does not hold: 'valid' has it {found.words()}",
+                *path,
+                "start",
+            )
+        return found
 
     def products(self, table, path, constants, names):
         if "rate" not in table:
@@ -372,6 +395,14 @@ class Reader:
 
 
 UNIT_OF_NUMBERS = unit("1")
+
+
+def plain(word):
+    """A word as TOML would have it: a number without a unit is a number."""
+    try:
+        return Decimal(word)
+    except ArithmeticError:
+        return word
 
 
 def rows_of(length, time):

@@ -5,6 +5,7 @@ from dataclasses import dataclass
 from fractions import Fraction
 
 import programs
+import valid
 from answer import Answer
 from clock import Clock
 from description import Description, rows_of
@@ -57,4 +58,5 @@ def search(plan, need=None, length=None):
             f"the search says {runs} of a passage that ended with {ended}, and the planner's ended with "
             f"{(plan.answer.result, plan.answer.at)}"
         )
-    return Search(need, rows, tuple(runs), tuple(said))
+    runs = valid.cut(runs, valid.within(plan).rows, rows)
+    return Search(need, rows, runs, tuple(said))

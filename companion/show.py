@@ -6,6 +6,7 @@ import csv
 import io
 from math import ceil, floor
 
+import valid
 from clock import length
 from refusals import ADVICE, MEANING, kept
 from sheet import beside_its_time
@@ -102,6 +103,8 @@ def text(plan, search, subjects, digits=None):
         parts.append([OUTWARD, *step_words(plan)])
     if search is not None:
         parts.append([*clear_words(plan, search), *(f"({words})" for words in search.said)])
+    if valid.words(plan):
+        parts.append(valid.words(plan))
     if plan.answer.result:
         parts.append(refusal_words(plan))
     return "\n\n".join("\n".join(lines) for lines in parts) + "\n"
