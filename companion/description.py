@@ -9,17 +9,20 @@ from fractions import Fraction
 from functools import reduce
 
 import rates
+import tide as tides
 import valid
 from entries import Lines, Refused, parse
-from units import SCALE, UNITS, Unit, measure, unit
+from units import PI, SCALE, UNITS, Unit, measure, unit
 
 ENTRIES = {
-    (): {"title", "time", "accuracy", "constants", "quantity", "clearance"},
+    (): {"title", "time", "accuracy", "constants", "tide", "quantity", "clearance"},
     ("time",): {"unit", "whole", "begin", "step", "steps", "length"},
     ("accuracy",): {"tail"},
     ("clearance",): {"about", "unit", "whole", "weights", "base", "need", "for", "digits", "sill"},
 }
 QUANTITY_ENTRIES = {"about", "unit", "whole", "start", "good_to", "tolerance", "rate", "digits", "sill", "valid"}
+TIDE_ENTRIES = {"about", "unit", "whole", "amplitude", "speed", "good_to", "tolerance", "digits"}
+TIDE_ENTRIES |= {"phase", "highest", "lowest"}  # One of these.
 NAME = re.compile(r"[A-Za-z_]\w*", re.ASCII)
 LEAST_TAIL = 2
 DIGITS = 3
@@ -181,8 +184,11 @@ class Reader:
         self.table()
         time = self.time()
         tail = self.whole_number(self.table("accuracy"), ("accuracy", "tail"), LEAST_TAIL, LEAST_TAIL, SCALE)
-        quantities = self.quantities(self.constants(time))
+        constants = self.constants(time)
+        found = self.tides(time, constants)
+        quantities = (*self.tide_quantities(found), *self.quantities(constants, found))
         self.check_units(time, quantities)
+        self.check_rises(found, quantities)
         title = self.text(self.tables, ("title",), "")
         return Description(title, time, tail, quantities, self.clearance(time, quantities), self.lines)
 
@@ -236,6 +242,14 @@ class Reader:
         """The clock at the start, and whether its day is given."""
         if found is None:
             return None, False
+        found, dated = self.moment(found, ("time", "begin"))
+        kind = unit(scale.unit)
+        if kind is None or not kind.is_like(unit("s")):
+            self.refuse(f"there is no clock in '{scale.unit}': the unit of time is s, min, h or d", "time", "begin")
+        return found, dated
+
+    def moment(self, found, path):
+        """A time of the clock, and whether its day is given."""
         if isinstance(found, str) and re.fullmatch(r"([01]?\d|2[0-3]):[0-5]\d", found):
             found = datetime.time(*map(int, found.split(":")))
         if isinstance(found, datetime.time):
@@ -244,11 +258,8 @@ class Reader:
             dated = True
         else:
             self.refuse(
-                "'begin' is a time, 08:00:00 or \"08:00\", or a day and a time, 2026-11-17T08:00:00", "time", "begin"
+                f"'{path[-1]}' is a time, 08:00:00 or \"08:00\", or a day and a time, 2026-11-17T08:00:00", *path
             )
-        kind = unit(scale.unit)
-        if kind is None or not kind.is_like(unit("s")):
-            self.refuse(f"there is no clock in '{scale.unit}': the unit of time is s, min, h or d", "time", "begin")
         return found, dated
 
     def constants(self, time):
@@ -261,26 +272,118 @@ class Reader:
             self.refuse(f"'{name}' is no name: a name has letters, digits and _", *path)
         if not isinstance(found, str):
             return self.number(found, path)
-        parted, tick = measure(found), unit(time.scale.unit)
-        given = unit(parted[1]) if parted else None
-        if given is None or tick is None or not given.is_like(UNIT_OF_NUMBERS.over(tick)):
+        angle = angle_for_time(found, time)
+        if angle is None:
             self.refuse(
                 f"'{name}' is a number in the description's units, or an angle for a time like '28.98 deg/h'", *path
             )
-        return parted[0] * given.size * tick.size
+        return angle
 
-    def quantities(self, constants):
+    def tides(self, time, constants):
+        """Each tide with its table, its scale and its path. Their names are none of the constants'."""
+        taken = {*constants, "clearance"}
+        for name in self.table("tide"):
+            if not NAME.fullmatch(name):
+                self.refuse(f"'{name}' is no name: a name has letters, digits and _", "tide", name)
+            for word in (name, tides.later(name), tides.rise(name)):
+                if word in taken:
+                    self.refuse(f"'{word}' has a meaning already", "tide", name)
+                taken.add(word)
+        return {name: self.tide(name, time) for name in self.table("tide")}
+
+    def tide(self, name, time):
+        path = ("tide", name)
+        table = self.table(*path)
+        for entry in table.keys() - TIDE_ENTRIES:
+            self.refuse(f"'{entry}' is no entry of a tide", *path, entry)
+        for entry in ("amplitude", "speed"):
+            if entry not in table:
+                self.refuse(f"[tide.{name}] has no '{entry}'", *path)
+        amplitude = self.in_unit(table["amplitude"], self.scale(table, path), (*path, "amplitude"))
+        if amplitude <= 0:
+            self.refuse("'amplitude' is more than 0", *path, "amplitude")
+        speed = angle_for_time(table["speed"], time)
+        if speed is None or speed <= 0:
+            self.refuse("'speed' is an angle for a time, more than 0, like '28.9841042 deg/h'", *path, "speed")
+        whole = self.scale(table, path).whole
+        return tides.Tide(name, amplitude / whole, speed, self.phase(table, path, speed, time))
+
+    def phase(self, table, path, speed, time):
+        """By how many radians the tide is before its highest when the passage begins: as it is given, or from the time
+        at which the clock has the tide at its highest or its lowest."""
+        given = [entry for entry in ("phase", "highest", "lowest") if entry in table]
+        if len(given) != 1:
+            self.refuse(f"[tide.{path[-1]}] has either 'phase', 'highest' or 'lowest'", *path)
+        [entry] = given
+        if entry == "phase":
+            parted = measure(table[entry]) if isinstance(table[entry], str) else None
+            phase = parted[0] * UNITS[parted[1]].size if parted and parted[1] in ("deg", "rad") else None
+            if phase is None or abs(phase) > 2 * PI:
+                self.refuse("'phase' is an angle from -360 to 360 deg, like '180 deg'", *path, entry)
+            return phase
+        phase = speed * self.since_begin(table[entry], time, (*path, entry))
+        if abs(phase) > tides.MOST_TURNS:
+            self.refuse(f"'{entry}' is too many turns from the beginning", *path, entry)
+        return phase if entry == "highest" else phase + PI
+
+    def since_begin(self, found, time, path):
+        """How long after the beginning a time of the clock is, in the unit of time."""
+        moment, dated = self.moment(found, path)
+        if time.begin is None:
+            self.refuse(f"'{path[-1]}' is a time of the clock, and [time] has no 'begin'", *path)
+        if dated and not time.dated:
+            self.refuse(f"'{path[-1]}' has a day, and 'begin' has none", *path)
+        if not dated:
+            moment = datetime.datetime.combine(time.begin.date(), moment.time())
+        passed = (moment - time.begin) // datetime.timedelta(microseconds=1)
+        return Fraction(passed, 10**6) / unit(time.scale.unit).size
+
+    def tide_quantities(self, found):
+        """The two quantities of each tide. Where a sheet cannot take one, the lines to blame are the tide's."""
+        for name, tide in found.items():
+            path = ("tide", name)
+            table = self.table(*path)
+            scale, about = self.scale(table, path), self.text(table, (*path, "about"), "")
+            good_to, tolerance = self.good_to(table, scale, path), self.tolerance(table, scale, path)
+            tellings = (name, about), (tides.later(name), f"{name} a quarter of its period later")
+            for (own, told), (start, cut), (speed, factor, text) in zip(tellings, tide.starts(), tide.rates()):
+                product = rates.Product(speed, (factor,), text)
+                for entry, source in TIDE_LINES.items():
+                    self.lines.found[("quantity", own, entry)] = (self.lines.line(*path, source), 1)
+                yield Quantity(
+                    own, told, scale, start, good_to + cut, tolerance, (product,), self.digits(table, path), None, None
+                )
+
+    def check_rises(self, found, quantities):
+        """A tide's rise brings nothing to a quantity of its kind in another unit, unless it is turned into it."""
+        scales = {quantity.name: quantity.scale for quantity in quantities}
+        for quantity in quantities:
+            for product in quantity.products:
+                for name in found:
+                    given, wanted = unit(scales[name].unit), unit(quantity.scale.unit)
+                    named = tides.rise(name) in product.text.split() and len(product.factors) == 1
+                    if named and given and wanted and given.is_like(wanted) and given.size != wanted.size:
+                        self.refuse(
+                            f"{name} is in {scales[name].unit} and {quantity.name} in {quantity.scale.unit}: give both one unit",
+                            "quantity",
+                            quantity.name,
+                            "rate",
+                        )
+
+    def quantities(self, constants, found):
         tables = self.table("quantity")
-        if not tables:
+        if not tables and not found:
             self.refuse("there is no quantity: [quantity.NAME]", "quantity")
+        names = [word for name in found for word in (name, tides.later(name))]
+        rises = {tides.rise(name): (tide.speed, (tides.later(name),)) for name, tide in found.items()}
         for name in tables:
             if not NAME.fullmatch(name):
                 self.refuse(f"'{name}' is no name: a name has letters, digits and _", "quantity", name)
-            if name in constants or name == "clearance":
+            if name in constants or name in names or name in rises or name == "clearance":
                 self.refuse(f"'{name}' has a meaning already", "quantity", name)
-        return tuple(self.quantity(name, constants, tuple(tables)) for name in tables)
+        return tuple(self.quantity(name, constants, (*names, *tables), rises) for name in tables)
 
-    def quantity(self, name, constants, names):
+    def quantity(self, name, constants, names, rises):
         path = ("quantity", name)
         table = self.table(*path)
         for entry in table.keys() - QUANTITY_ENTRIES:
@@ -294,7 +397,7 @@ class Reader:
             start,
             self.good_to(table, scale, path),
             self.tolerance(table, scale, path),
-            self.products(table, path, constants, names),
+            self.products(table, path, constants, names, rises),
             self.digits(table, path),
             self.sill(table, scale, path, NO_SILL),
             self.valid(table, scale, path, start),
@@ -342,14 +445,14 @@ class Reader:
             )
         return found
 
-    def products(self, table, path, constants, names):
+    def products(self, table, path, constants, names, rises):
         if "rate" not in table:
             self.refuse(f"'{path[-1]}' has no rate: \"0\" where it stays as it is", *path)
         text = table["rate"]
         if not isinstance(text, str):
             self.refuse("'rate' is a text, as \"m2 * rise\"", *path, "rate")
         try:
-            return tuple(rates.read(text, constants, names))
+            return tuple(rates.read(text, constants, names, rises))
         except rates.Unreadable as fault:
             raise Refused(self.lines.line_within((*path, "rate"), text, fault.place), fault.why) from fault
 
@@ -395,6 +498,17 @@ class Reader:
 
 
 UNIT_OF_NUMBERS = unit("1")
+# Where the entries of a tide's quantities stand.
+TIDE_LINES = {"start": "amplitude", "good_to": "good_to", "tolerance": "tolerance", "rate": "speed"}
+
+
+def angle_for_time(found, time):
+    """An angle for a time, as '28.9841042 deg/h', in radians for the unit of time; None where it is no such text."""
+    parted, tick = measure(found) if isinstance(found, str) else None, unit(time.scale.unit)
+    given = unit(parted[1]) if parted else None
+    if given is None or tick is None or not given.is_like(UNIT_OF_NUMBERS.over(tick)):
+        return None
+    return parted[0] * given.size * tick.size
 
 
 def plain(word):

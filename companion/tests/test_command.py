@@ -256,8 +256,8 @@ def pattern(printed):
 class Pages(unittest.TestCase):
     def test_the_companions_page_names_every_entry_unit_and_file(self):
         text = (programs.ROOT / "companion" / "README.md").read_text()
-        entries = set().union(description.QUANTITY_ENTRIES, *description.ENTRIES.values())
-        for entry in entries - {"constants", "accuracy", "time", "quantity", "clearance"}:
+        entries = set().union(description.QUANTITY_ENTRIES, description.TIDE_ENTRIES, *description.ENTRIES.values())
+        for entry in entries - {"constants", "accuracy", "time", "tide", "quantity", "clearance"}:
             self.assertIn(f"`{entry}`", text)
         for name in UNITS.keys() - {"1"}:
             self.assertRegex(text, rf"\b{name}\b")
