@@ -363,8 +363,9 @@ class Reader:
                     given, wanted = unit(scales[name].unit), unit(quantity.scale.unit)
                     named = tides.rise(name) in product.text.split() and len(product.factors) == 1
                     if named and given and wanted and given.is_like(wanted) and given.size != wanted.size:
+                        units = f"{name} is in {scales[name].unit} and {quantity.name} in {quantity.scale.unit}"
                         self.refuse(
-                            f"{name} is in {scales[name].unit} and {quantity.name} in {quantity.scale.unit}: give both one unit",
+                            f"{units}: give both one unit",
                             "quantity",
                             quantity.name,
                             "rate",

@@ -37,7 +37,8 @@ class Tide:
 
     def rates(self):
         """Of the tide and of its later one: the coefficient, the quantity that it goes with, and the rate in words."""
-        return (self.speed, later(self.name), f"speed * {later(self.name)}"), (-self.speed, self.name, f"-speed * {self.name}")
+        companion = later(self.name)
+        return (self.speed, companion, f"speed * {companion}"), (-self.speed, self.name, f"-speed * {self.name}")
 
 
 def start(amplitude, angle):

@@ -184,7 +184,7 @@ class Descriptions(unittest.TestCase):
             ([("[quantity.water]", "[quantity.moon_later]")], 19, "'moon_later' has a meaning already"),
             ([("[quantity.water]", "[quantity.rise_of_moon]")], 19, "'rise_of_moon' has a meaning already"),
             ([("rise_of_moon\n", "rise_of_sun\n")], 26, "'rise_of_sun' is neither"),
-            ([('[tide.moon]\nunit = "m"', '[tide.moon]\nunit = "ft"')], 25, "moon is in ft and water in m: give both one unit"),
+            ([('[tide.moon]\nunit = "m"', '[tide.moon]\nunit = "ft"')], 25, "moon is in ft and water in m: give both"),
         ]:
             with self.subTest(edits=edits):
                 found, why = refusal(*edits)

@@ -152,8 +152,8 @@ class Telling(unittest.TestCase):
         self.assertEqual(search(bound, length=Fraction(last - first + 2)).runs, ())
         told = show.text(bound, search(bound), chosen(bound.subjects, ["level"]))
         self.assertIn(
-            "from 07:49 on root may be under 0 m^0.5, and its equation holds for 0 m^0.5 or more only: nothing from there on is "
-            "called clear\n",
+            "from 07:49 on root may be under 0 m^0.5, and its equation holds for 0 m^0.5 or more only: nothing from there on "
+            "is called clear\n",
             told,
         )
         self.assertNotIn("called clear", show.text(free, search(free), free.subjects))
@@ -164,7 +164,8 @@ class Telling(unittest.TestCase):
         self.assertEqual([line[-1] for line in lines[1:]], ["no"] * 5 + ["yes"] * 44 + ["no"] * 11)
 
     def test_of_several_quantities_the_first_row_outside_counts(self):
-        made = basin((ROOT_RATE, f'{ROOT_RATE}\nvalid = "0 m^0.5 or more"'), ('rate = "k * root"', 'rate = "k * root"\nvalid = "0 to 5 m"'))
+        level = ('rate = "k * root"', 'rate = "k * root"\nvalid = "0 to 5 m"')
+        made = basin((ROOT_RATE, f'{ROOT_RATE}\nvalid = "0 m^0.5 or more"'), level)
         self.assertIn("level may be over 5 m, and its equation holds from 0 m to 5 m only", valid.words(made)[0])
         self.assertLess(valid.within(made).rows, 45)
 
@@ -174,5 +175,6 @@ class Telling(unittest.TestCase):
         self.assertIn("from 07:49 on root may be", show.text(bare, None, bare.subjects))
 
     def test_going_back(self):
-        made = plan(description.read(edited((RATE, f'{RATE}\nvalid = "1.7 m or less"'), ('step = "10 min"', 'step = "-10 min"'))))
-        self.assertRegex(valid.words(made)[0], r"^before 07:\d0 water may be over 1.7 m, .*: nothing before that is called clear$")
+        text = edited((RATE, f'{RATE}\nvalid = "1.7 m or less"'), ('step = "10 min"', 'step = "-10 min"'))
+        [words] = valid.words(plan(description.read(text)))
+        self.assertRegex(words, r"^before 07:\d0 water may be over 1.7 m, .*: nothing before that is called clear$")
