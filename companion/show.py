@@ -13,6 +13,10 @@ from sheet import beside_its_time
 from units import at_least, decimal, near, with_unit
 
 OUTWARD = "(rounded outward; a radius has in it what its value was rounded by)"
+FOOT = [
+    "For certain means: by these equations, and within what the readings are good to. Not in it, unless the equations have it:",
+    "surge, wind, air pressure, squat, and what the chart's datum or its depths are off by.",
+]
 COLUMNS = ("value", "radius", "at least", "at most", "at least", "at most")
 
 
@@ -107,6 +111,8 @@ def text(plan, search, subjects, digits=None):
         parts.append(valid.words(plan))
     if plan.answer.result:
         parts.append(refusal_words(plan))
+    if search is not None and search.runs:
+        parts.append(FOOT)
     return "\n\n".join("\n".join(lines) for lines in parts) + "\n"
 
 
