@@ -280,7 +280,7 @@ class Reader:
         return angle
 
     def tides(self, time, constants):
-        """Each tide with its table, its scale and its path. Their names are none of the constants'."""
+        """The tides by their names, which are none of the constants', and nor are the names that they make."""
         taken = {*constants, "clearance"}
         for name in self.table("tide"):
             if not NAME.fullmatch(name):
@@ -299,14 +299,14 @@ class Reader:
         for entry in ("amplitude", "speed"):
             if entry not in table:
                 self.refuse(f"[tide.{name}] has no '{entry}'", *path)
-        amplitude = self.in_unit(table["amplitude"], self.scale(table, path), (*path, "amplitude"))
+        scale = self.scale(table, path)
+        amplitude = self.in_unit(table["amplitude"], scale, (*path, "amplitude"))
         if amplitude <= 0:
             self.refuse("'amplitude' is more than 0", *path, "amplitude")
         speed = angle_for_time(table["speed"], time)
         if speed is None or speed <= 0:
             self.refuse("'speed' is an angle for a time, more than 0, like '28.9841042 deg/h'", *path, "speed")
-        whole = self.scale(table, path).whole
-        return tides.Tide(name, amplitude / whole, speed, self.phase(table, path, speed, time))
+        return tides.Tide(name, amplitude / scale.whole, speed, self.phase(table, path, speed, time))
 
     def phase(self, table, path, speed, time):
         """By how many radians the tide is before its highest when the passage begins: as it is given, or from the time
@@ -322,8 +322,8 @@ class Reader:
                 self.refuse("'phase' is an angle from -360 to 360 deg, like '180 deg'", *path, entry)
             return phase
         phase = speed * self.since_begin(table[entry], time, (*path, entry))
-        if abs(phase) > tides.MOST_TURNS:
-            self.refuse(f"'{entry}' is too many turns from the beginning", *path, entry)
+        if abs(phase) > tides.MOST_ANGLE:
+            self.refuse(f"'{entry}' is too far from the beginning of the passage", *path, entry)
         return phase if entry == "highest" else phase + PI
 
     def since_begin(self, found, time, path):
@@ -348,6 +348,7 @@ class Reader:
             tellings = (name, about), (tides.later(name), f"{name} a quarter of its period later")
             for (own, told), (start, cut), (speed, factor, text) in zip(tellings, tide.starts(), tide.rates()):
                 product = rates.Product(speed, (factor,), text)
+                self.lines.found.setdefault(("quantity", own), (self.lines.line(*path), 1))
                 for entry, source in TIDE_LINES.items():
                     self.lines.found[("quantity", own, entry)] = (self.lines.line(*path, source), 1)
                 yield Quantity(
@@ -355,21 +356,21 @@ class Reader:
                 )
 
     def check_rises(self, found, quantities):
-        """A tide's rise brings nothing to a quantity of its kind in another unit, unless it is turned into it."""
-        scales = {quantity.name: quantity.scale for quantity in quantities}
+        """A tide's rise is no rate of a quantity of its kind that is in another unit."""
+        units = {quantity.name: quantity.scale.unit for quantity in quantities}
         for quantity in quantities:
-            for product in quantity.products:
-                for name in found:
-                    given, wanted = unit(scales[name].unit), unit(quantity.scale.unit)
-                    named = tides.rise(name) in product.text.split() and len(product.factors) == 1
-                    if named and given and wanted and given.is_like(wanted) and given.size != wanted.size:
-                        units = f"{name} is in {scales[name].unit} and {quantity.name} in {quantity.scale.unit}"
-                        self.refuse(
-                            f"{units}: give both one unit",
-                            "quantity",
-                            quantity.name,
-                            "rate",
-                        )
+            for name in found:
+                given, wanted = unit(units[name]), unit(quantity.scale.unit)
+                if given is None or wanted is None or not given.is_like(wanted) or given.size == wanted.size:
+                    continue
+                risen = re.compile(rf"\b{tides.rise(name)}\b", re.ASCII)
+                if any(len(product.factors) == 1 and risen.search(product.text) for product in quantity.products):
+                    self.refuse(
+                        f"{name} is in {units[name]} and {quantity.name} in {quantity.scale.unit}: give both one unit",
+                        "quantity",
+                        quantity.name,
+                        "rate",
+                    )
 
     def quantities(self, constants, found):
         tables = self.table("quantity")

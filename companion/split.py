@@ -21,6 +21,7 @@ from sheet import LIMIT, MOST_STEPS
 from units import PI, SCALE, decimal, shown, unit, with_unit
 
 KEY = re.compile(r"""(?P<before>\s*(?:[\w"'-]+\s*\.\s*)*)["']?(?P<key>\w+)["']?\s*=""", re.ASCII)
+MOST_PARTS = 100
 PHASES = ("phase", "highest", "lowest")
 FINEST = 40  # Places of a phase that has no end.
 
@@ -82,10 +83,12 @@ class Splitter:
         self.text, self.rows = text, rows
         self.whole = descriptions.read(text)
         self.time = self.whole.time
-        self.clock = Clock(self.time)
         self.count = -(-self.time.steps // rows)
+        if self.count > MOST_PARTS:
+            raise Refused(None, f"{self.time.steps} steps would be {self.count} parts, and {MOST_PARTS} are the most")
+        self.clock = Clock(self.time)
         reader = descriptions.Reader(text)
-        self.tides = reader.tides(self.time, reader.constants(self.time))
+        self.tables, self.tides = reader.tables, reader.tides(self.time, reader.constants(self.time))
 
     def parts(self):
         """The texts of the parts, each read back and compared with what it should mean."""
@@ -155,7 +158,7 @@ class Splitter:
     def entries(self, number, made):
         """The entries of a part that differ, by the paths of those in whose place they stand."""
         yield ("title",), Entry("title", json.dumps(self.title(number), ensure_ascii=False))
-        lasting = "length" if ("time", "length") in self.whole.lines.found else "steps"
+        lasting = "length" if "length" in self.tables["time"] else "steps"
         yield ("time", lasting), Entry("steps", str(self.steps(number)))
         if number == 1:
             return
@@ -163,7 +166,7 @@ class Splitter:
         if begin is not None:
             yield ("time", "begin"), Entry("begin", (begin if self.time.dated else begin.time()).isoformat())
         for name in self.tides:
-            entry = next(each for each in PHASES if ("tide", name, each) in self.whole.lines.found)
+            entry = next(each for each in PHASES if each in self.tables["tide"][name])
             yield ("tide", name, entry), Entry("phase", f'"{degrees_text(self.phase(name, number))} deg"')
         for quantity, (value, radius) in self.ends(made, number - 1):
             amount = with_unit(shown(Fraction(value, SCALE) * quantity.scale.whole), quantity.scale.unit)

@@ -10,7 +10,7 @@ QUARTER = PI / 2
 PLACES = 9  # Behind the point of a whole, of a start that had to be cut. A unit is 60 times as large as the last.
 FINE = 60  # Places of an angle whose cosine is worked out.
 ORDERS = 35  # pi^70 / 70! is less than 10^-60.
-MOST_TURNS = 10**6  # So many turns away, pi's 64 places are still more than enough.
+MOST_ANGLE = 10**6  # Up to which pi's 64 places are more than enough.
 
 
 def later(name):

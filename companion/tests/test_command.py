@@ -66,6 +66,7 @@ class Arguments(Folder):
             "passage write DESCRIPTION",
             "passage show DESCRIPTION",
             "passage draw DESCRIPTION",
+            "passage split DESCRIPTION",
             "passage explain FILE",
             "65",
         ):

@@ -115,8 +115,19 @@ class Texts(unittest.TestCase):
                 self.assertEqual(found, line)
 
     def test_an_inline_table_cannot_be_split(self):
-        text = 'quantity.x = { start = 1, good_to = 0, tolerance = 1, rate = "0" }\n[time]\nstep = 1\nsteps = 9\n'
-        self.assertIn("write each entry that changes on a line of its own", refusal(text, 5)[1])
+        tide, rest = MOON[MOON.index("[tide.moon]") : MOON.index("[quantity.water]")], "[time]\nstep = 1\nsteps = 9\n"
+        lines = ", ".join(tide.replace(" # by the almanac", "").splitlines()[1:])
+        for text in (
+            'quantity.x = { start = 1, good_to = 0, tolerance = 1, rate = "0" }\n' + rest,
+            'time = { step = 1, steps = 9 }\n[quantity.x]\nstart = 1\ngood_to = 0\ntolerance = 1\nrate = "0"\n',
+            f"tide.moon = {{ {lines} }}\n" + MOON.replace(tide, ""),
+        ):
+            with self.subTest(text=text):
+                self.assertIn("write each entry that changes on a line of its own", refusal(text, 5)[1])
+
+    def test_not_too_many(self):
+        text = edited(("begin = 08:00:00\n", ""), ('length = "1 h"', "steps = 1000000000"))
+        self.assertIn("1000000000 steps would be 4166667 parts, and 100 are the most", refusal(text)[1])
 
 
 class Meaning(unittest.TestCase):

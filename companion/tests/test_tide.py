@@ -151,8 +151,11 @@ class Descriptions(unittest.TestCase):
             return "".join(MOON.replace("moon", f"tide{number}") for number in range(count))
 
         self.assertEqual(len(Writer(read(("[quantity.water]", more(2) + "[quantity.water]"))).sheet().starts), 7)
-        line, why = refusal(("[quantity.water]", more(3) + "[quantity.water]"))
-        self.assertIn("'water' is the ninth quantity", why)
+        self.assertEqual(
+            refusal(("[quantity.water]", more(3) + "[quantity.water]")),
+            (19 + 3 * 6, "'water' is the ninth quantity, and a sheet has eight at most"),
+        )
+        self.assertEqual(refusal(("[quantity.water]", more(4) + "[quantity.water]"))[0], 19 + 3 * 6)
 
     def test_each_is_refused_with_its_line(self):
         for edits, line, words in [
@@ -184,6 +187,12 @@ class Descriptions(unittest.TestCase):
             ([("[quantity.water]", "[quantity.moon_later]")], 19, "'moon_later' has a meaning already"),
             ([("[quantity.water]", "[quantity.rise_of_moon]")], 19, "'rise_of_moon' has a meaning already"),
             ([("rise_of_moon\n", "rise_of_sun\n")], 26, "'rise_of_sun' is neither"),
+            (
+                [("begin = 08:00:00", "begin = 2026-11-17T08:00:00"), ('phase = "180 deg"', "lowest = 2326-11-17T08:00:00")],
+                16,
+                "'lowest' is too far from the beginning",
+            ),
+            ([('"m"\namplitude', '"ft"\namplitude'), ("rise_of_moon\n", "2*rise_of_moon\n")], 25, "moon is in ft and"),
             ([('[tide.moon]\nunit = "m"', '[tide.moon]\nunit = "ft"')], 25, "moon is in ft and water in m: give both"),
         ]:
             with self.subTest(edits=edits):
