@@ -356,20 +356,22 @@ class Reader:
                 )
 
     def check_rises(self, found, quantities):
-        """A tide's rise is no rate of a quantity of its kind that is in another unit."""
+        """In the rate of a quantity of a tide's kind, the tide itself is a slip for its rise, and its rise is in another
+        unit where the tide is."""
         units = {quantity.name: quantity.scale.unit for quantity in quantities}
         for quantity in quantities:
             for name in found:
                 given, wanted = unit(units[name]), unit(quantity.scale.unit)
-                if given is None or wanted is None or not given.is_like(wanted) or given.size == wanted.size:
+                if given is None or wanted is None or not given.is_like(wanted):
                     continue
-                risen = re.compile(rf"\b{tides.rise(name)}\b", re.ASCII)
-                if any(len(product.factors) == 1 and risen.search(product.text) for product in quantity.products):
+                path, rise = ("quantity", quantity.name, "rate"), tides.rise(name)
+                texts = [product.text for product in quantity.products if len(product.factors) == 1]
+                if name in (text.lstrip("+- ") for text in texts):
+                    self.refuse(f"'{name}' is how high the tide is, and no rate: how fast it rises is '{rise}'", *path)
+                if given.size != wanted.size and any(rise in re.findall(r"\w+", text) for text in texts):
                     self.refuse(
                         f"{name} is in {units[name]} and {quantity.name} in {quantity.scale.unit}: give both one unit",
-                        "quantity",
-                        quantity.name,
-                        "rate",
+                        *path,
                     )
 
     def quantities(self, constants, found):

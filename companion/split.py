@@ -125,7 +125,7 @@ class Splitter:
 
     def advice(self):
         """What to do where a part is refused: a tide starts anew from its constants in each."""
-        anew = "Parts of fewer rows let the tides start anew more often: --rows."
+        anew = "Parts of fewer rows let the tides start anew more often, as with --rows 36."
         return ["Nothing is written."] + ([anew] if self.tides else [])
 
     def words(self, number):

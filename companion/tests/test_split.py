@@ -234,7 +234,7 @@ class Command(Folder):
     def test_all_or_none_and_nothing_written_over(self):
         self.put("moon.toml", MOON)
         self.expect(8, "part 1 of 2:\nstep ", "split", "moon.toml")
-        advice = "Nothing is written.\nParts of fewer rows let the tides start anew more often: --rows."
+        advice = "Nothing is written.\nParts of fewer rows let the tides start anew more often, as with --rows 36."
         self.expect(8, advice, "split", "moon.toml")
         self.put("moon-4.toml", "kept")
         self.expect(65, "'moon-4.toml' is there already", "split", "moon.toml", "--rows", "72")

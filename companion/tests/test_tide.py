@@ -136,6 +136,8 @@ class Descriptions(unittest.TestCase):
             ("-2 * rise_of_moon", -2 * speed, ("moon_later",)),
             ("rise_of_moon^2", speed**2, ("moon_later", "moon_later")),
             ("rise_of_moon * water", speed, ("moon_later", "water")),
+            ("0.3 * moon", Fraction(3, 10), ("moon",)),
+            ("moon * water", 1, ("moon", "water")),
         ]:
             product = read(("rise_of_moon", rate)).quantities[2].products[0]
             self.assertEqual((product.coefficient, product.factors), (coefficient, factors))
@@ -187,6 +189,8 @@ class Descriptions(unittest.TestCase):
             ([("[quantity.water]", "[quantity.moon_later]")], 19, "'moon_later' has a meaning already"),
             ([("[quantity.water]", "[quantity.rise_of_moon]")], 19, "'rise_of_moon' has a meaning already"),
             ([("rise_of_moon\n", "rise_of_sun\n")], 26, "'rise_of_sun' is neither"),
+            ([("rise_of_moon\n", "moon\n")], 25, "how fast it rises is 'rise_of_moon'"),
+            ([("rise_of_moon\n", "0.2 - moon\n")], 25, "'moon' is how high the tide is, and no rate"),
             (
                 [("begin = 08:00:00", "begin = 2026-11-17T08:00:00"), ('phase = "180 deg"', "lowest = 2326-11-17T08:00:00")],
                 16,
