@@ -10,16 +10,20 @@ from functools import reduce
 
 import rates
 import slips
+import tide as tides
+import valid
 from entries import Lines, Refused, mended, parse
-from units import MOST_LETTERS, OFF_BY, SCALE, UNITS, UNSIGNED, Unit, comma_words, meant, measure, unit
+from units import MOST_LETTERS, OFF_BY, PI, SCALE, UNITS, UNSIGNED, Unit, comma_words, meant, measure, unit
 
 ENTRIES = {
-    (): {"title", "time", "accuracy", "constants", "quantity", "clearance"},
+    (): {"title", "time", "accuracy", "constants", "tide", "quantity", "clearance"},
     ("time",): {"unit", "whole", "begin", "step", "steps", "length"},
     ("accuracy",): {"tail"},
     ("clearance",): {"about", "unit", "whole", "weights", "base", "need", "for", "digits", "sill"},
 }
-QUANTITY_ENTRIES = {"about", "unit", "whole", "start", "good_to", "tolerance", "rate", "digits", "sill"}
+QUANTITY_ENTRIES = {"about", "unit", "whole", "start", "good_to", "tolerance", "rate", "digits", "sill", "valid"}
+TIDE_ENTRIES = {"about", "unit", "whole", "amplitude", "speed", "good_to", "tolerance", "digits"}
+TIDE_ENTRIES |= {"phase", "highest", "lowest"}  # One of these.
 IN_WHOLES = ("start", "good_to", "tolerance")
 NAME = re.compile(r"[A-Za-z_]\w*", re.ASCII)
 LEAST_TAIL = 2
@@ -42,8 +46,8 @@ class Scale:
 @dataclass(frozen=True)
 class Quantity:
     """A quantity. Its start (None: no reading), how good that is and its tolerance (None: not given) are in wholes; its
-    sill (None: it has none), which is only drawn, is in its unit. Which of the first three were given in the sheet's
-    own units is kept: no other 'whole' changes those."""
+    sill (None: it has none), which is only drawn, is in its unit, and so is the range in which its equation holds. Which of
+    the first three were given in the sheet's own units is kept: no other 'whole' changes those."""
 
     name: str
     about: str
@@ -54,6 +58,7 @@ class Quantity:
     products: tuple
     digits: int
     sill: Fraction | None
+    valid: valid.Range | None
     in_units: frozenset = frozenset()
 
 
@@ -192,8 +197,11 @@ class Reader:
         self.table()
         time = self.time()
         tail = self.whole_number(self.table("accuracy"), ("accuracy", "tail"), LEAST_TAIL, LEAST_TAIL, SCALE)
-        quantities = self.quantities(self.constants(time))
+        constants = self.constants(time)
+        found = self.tides(time, constants)
+        quantities = (*self.tide_quantities(found), *self.quantities(constants, found))
         self.check_units(time, quantities)
+        self.check_rises(found, quantities)
         title = self.text(self.tables, ("title",), "")
         return Description(title, time, tail, quantities, self.clearance(time, quantities), self.lines)
 
@@ -247,6 +255,14 @@ class Reader:
         """The clock at the start, whether its day is given, and its offset as it is told."""
         if found is None:
             return None, False, ""
+        found, dated = self.moment(found, ("time", "begin"))
+        kind = unit(scale.unit)
+        if kind is None or not kind.is_like(unit("s")):
+            self.refuse(f"there is no clock in '{scale.unit}': the unit of time is s, min, h or d", "time", "begin")
+        return found.replace(tzinfo=None), dated, offset_of(found)
+
+    def moment(self, found, path):
+        """A time of the clock, and whether its day is given."""
         if isinstance(found, str):
             found = clock_of(found)
         if isinstance(found, datetime.time):
@@ -255,15 +271,11 @@ class Reader:
             dated = True
         else:
             self.refuse(
-                "'begin' is a time, 08:00 or 08:00:00, or a day and a time, 2026-11-17T08:00, which may have an "
+                f"'{path[-1]}' is a time, 08:00 or 08:00:00, or a day and a time, 2026-11-17T08:00, which may have an "
                 "offset, +01:00 or Z",
-                "time",
-                "begin",
+                *path,
             )
-        kind = unit(scale.unit)
-        if kind is None or not kind.is_like(unit("s")):
-            self.refuse(f"there is no clock in '{scale.unit}': the unit of time is s, min, h or d", "time", "begin")
-        return found.replace(tzinfo=None), dated, offset_of(found)
+        return found, dated
 
     def constants(self, time):
         return {name: self.constant(name, found, time) for name, found in self.table("constants").items()}
@@ -275,28 +287,127 @@ class Reader:
             self.refuse(f"'{name}' is no name: a name has letters, digits and _", *path)
         if not isinstance(found, str):
             return self.number(found, path)
-        parted, tick = measure(found), unit(time.scale.unit)
-        given = unit(parted[1]) if parted else None
-        if given is None and comma_words(found):
+        if comma_words(found):
             self.refuse(f"'{name}': {comma_words(found)}", *path)
-        if given is None or tick is None or not given.is_like(UNIT_OF_NUMBERS.over(tick)):
+        angle = angle_for_time(found, time)
+        if angle is None:
             self.refuse(
                 f"'{name}' is a number in the description's units, or an angle for a time like '28.98 deg/h'", *path
             )
-        return parted[0] * given.size * tick.size
+        return angle
 
-    def quantities(self, constants):
+    def tides(self, time, constants):
+        """The tides by their names, which are none of the constants', and nor are the names that they make."""
+        taken = {*constants, "clearance"}
+        for name in self.table("tide"):
+            if not NAME.fullmatch(name):
+                self.refuse(f"'{name}' is no name: a name has letters, digits and _", "tide", name)
+            for word in (name, tides.later(name), tides.rise(name)):
+                if word in taken:
+                    self.refuse(f"'{word}' has a meaning already", "tide", name)
+                taken.add(word)
+        return {name: self.tide(name, time) for name in self.table("tide")}
+
+    def tide(self, name, time):
+        path = ("tide", name)
+        table = self.table(*path)
+        for entry in table.keys() - TIDE_ENTRIES:
+            self.refuse(f"'{entry}' is no entry of a tide", *path, entry)
+        for entry in ("amplitude", "speed"):
+            if entry not in table:
+                self.refuse(f"[tide.{name}] has no '{entry}'", *path)
+        scale = self.scale(table, path)
+        amplitude = self.in_unit(table["amplitude"], scale, (*path, "amplitude"))
+        if amplitude <= 0:
+            self.refuse("'amplitude' is more than 0", *path, "amplitude")
+        speed = angle_for_time(table["speed"], time)
+        if speed is None or speed <= 0:
+            self.refuse("'speed' is an angle for a time, more than 0, like '28.9841042 deg/h'", *path, "speed")
+        return tides.Tide(name, amplitude / scale.whole, speed, self.phase(table, path, speed, time))
+
+    def phase(self, table, path, speed, time):
+        """By how many radians the tide is before its highest when the passage begins: as it is given, or from the time
+        at which the clock has the tide at its highest or its lowest."""
+        given = [entry for entry in ("phase", "highest", "lowest") if entry in table]
+        if len(given) != 1:
+            self.refuse(f"[tide.{path[-1]}] has either 'phase', 'highest' or 'lowest'", *path)
+        [entry] = given
+        if entry == "phase":
+            parted = measure(table[entry]) if isinstance(table[entry], str) else None
+            kind = unit(parted[1]) if parted else None
+            phase = parted[0] * kind.size if kind in (UNITS["deg"], UNITS["rad"]) else None
+            if phase is None or abs(phase) > 2 * PI:
+                self.refuse("'phase' is an angle from -360 to 360 deg, like '180 deg'", *path, entry)
+            return phase
+        phase = speed * self.since_begin(table[entry], time, (*path, entry))
+        if abs(phase) > tides.MOST_ANGLE:
+            self.refuse(f"'{entry}' is too far from the beginning of the passage", *path, entry)
+        return phase if entry == "highest" else phase + PI
+
+    def since_begin(self, found, time, path):
+        """How long after the beginning a time of the clock is, in the unit of time."""
+        moment, dated = self.moment(found, path)
+        if moment.tzinfo is not None:
+            self.refuse(f"'{path[-1]}' is told by the same clock as 'begin', and has no offset of its own", *path)
+        if time.begin is None:
+            self.refuse(f"'{path[-1]}' is a time of the clock, and [time] has no 'begin'", *path)
+        if dated and not time.dated:
+            self.refuse(f"'{path[-1]}' has a day, and 'begin' has none", *path)
+        if not dated:
+            moment = datetime.datetime.combine(time.begin.date(), moment.time())
+        passed = (moment - time.begin) // datetime.timedelta(microseconds=1)
+        return Fraction(passed, 10**6) / unit(time.scale.unit).size
+
+    def tide_quantities(self, found):
+        """The two quantities of each tide. Where a sheet cannot take one, the lines to blame are the tide's."""
+        for name, tide in found.items():
+            path = ("tide", name)
+            table = self.table(*path)
+            scale, about = self.scale(table, path), self.text(table, (*path, "about"), "")
+            good_to, tolerance = self.good_to(table, scale, path), self.tolerance(table, scale, path)
+            tellings = (name, about), (tides.later(name), f"{name} a quarter of its period later")
+            for (own, told), (start, cut), (speed, factor, text) in zip(tellings, tide.starts(), tide.rates()):
+                product = rates.Product(speed, (factor,), text)
+                self.lines.found.setdefault(("quantity", own), (self.lines.line(*path), 1))
+                for entry, source in TIDE_LINES.items():
+                    self.lines.found[("quantity", own, entry)] = (self.lines.line(*path, source), 1)
+                yield Quantity(
+                    own, told, scale, start, good_to + cut, tolerance, (product,), self.digits(table, path), None, None
+                )
+
+    def check_rises(self, found, quantities):
+        """In the rate of a quantity of a tide's kind, the tide itself is a slip for its rise, and its rise is in another
+        unit where the tide is."""
+        units = {quantity.name: quantity.scale.unit for quantity in quantities}
+        for quantity in quantities:
+            for name in found:
+                given, wanted = unit(units[name]), unit(quantity.scale.unit)
+                if given is None or wanted is None or not given.is_like(wanted):
+                    continue
+                path, rise = ("quantity", quantity.name, "rate"), tides.rise(name)
+                texts = [product.text for product in quantity.products if len(product.factors) == 1]
+                if name in (text.lstrip("+- ") for text in texts):
+                    self.refuse(f"'{name}' is how high the tide is, and no rate: how fast it rises is '{rise}'", *path)
+                if given.size != wanted.size and any(rise in re.findall(r"\w+", text) for text in texts):
+                    self.refuse(
+                        f"{name} is in {units[name]} and {quantity.name} in {quantity.scale.unit}: give both one unit",
+                        *path,
+                    )
+
+    def quantities(self, constants, found):
         tables = self.table("quantity")
-        if not tables:
+        if not tables and not found:
             self.refuse("there is no quantity: [quantity.NAME]", "quantity")
+        names = [word for name in found for word in (name, tides.later(name))]
+        rises = {tides.rise(name): (tide.speed, (tides.later(name),)) for name, tide in found.items()}
         for name in tables:
             if not NAME.fullmatch(name):
                 self.refuse(f"'{name}' is no name: a name has letters, digits and _", "quantity", name)
-            if name in constants or name == "clearance":
+            if name in constants or name in names or name in rises or name == "clearance":
                 self.refuse(f"'{name}' has a meaning already", "quantity", name)
-        return tuple(self.quantity(name, constants, tuple(tables)) for name in tables)
+        return tuple(self.quantity(name, constants, (*names, *tables), rises) for name in tables)
 
-    def quantity(self, name, constants, names):
+    def quantity(self, name, constants, names, rises):
         path = ("quantity", name)
         table = self.table(*path)
         for entry in table:
@@ -311,9 +422,10 @@ class Reader:
             start,
             self.good_to(table, scale, path),
             self.tolerance(table, scale, path),
-            self.products(table, path, constants, names),
+            self.products(table, path, constants, names, rises),
             self.digits(table, path),
             self.sill(table, scale, path, NO_SILL),
+            self.valid(table, scale, path, start),
             frozenset(entry for entry in IN_WHOLES if isinstance(table.get(entry), dict)),
         )
 
@@ -339,14 +451,34 @@ class Reader:
         found = table.get("sill", otherwise)
         return None if found == NO_SILL else self.in_unit(found, scale, (*path, "sill"))
 
-    def products(self, table, path, constants, names):
+    def valid(self, table, scale, path, start):
+        """The range in which the quantity's equation holds; its start, where there is a reading, lies within."""
+        if "valid" not in table:
+            return None
+        entry = (*path, "valid")
+        texts = valid.ends(self.text(table, entry, ""))
+        if texts is None:
+            self.refuse("'valid' is a range: \"0 m to 8 m\", \"0 m or more\" or \"8 m or less\"", *entry)
+        least, most = (None if text is None else self.in_unit(plain(text), scale, entry) for text in texts)
+        found = valid.Range(least, most, scale.unit)
+        if None not in (least, most) and most < least:
+            self.refuse(f"'valid' goes {found.words()}: the smaller number stands first", *entry)
+        if start is not None and not found.holds(start * scale.whole, start * scale.whole):
+            self.refuse(
+                f"the start of {path[-1]} lies where its equation does not hold: 'valid' has it {found.words()}",
+                *path,
+                "start",
+            )
+        return found
+
+    def products(self, table, path, constants, names, rises):
         if "rate" not in table:
             self.refuse(f"'{path[-1]}' has no rate: \"0\" where it stays as it is", *path)
         text = table["rate"]
         if not isinstance(text, str):
             self.refuse("'rate' is a text, as \"m2 * rise\"", *path, "rate")
         try:
-            return tuple(rates.read(text, constants, names))
+            return tuple(rates.read(text, constants, names, rises))
         except rates.Unreadable as fault:
             raise Refused(self.lines.line_within((*path, "rate"), text, fault.place), fault.why) from fault
 
@@ -392,6 +524,25 @@ class Reader:
 
 
 UNIT_OF_NUMBERS = unit("1")
+# Where the entries of a tide's quantities stand.
+TIDE_LINES = {"start": "amplitude", "good_to": "good_to", "tolerance": "tolerance", "rate": "speed"}
+
+
+def angle_for_time(found, time):
+    """An angle for a time, as '28.9841042 deg/h', in radians for the unit of time; None where it is no such text."""
+    parted, tick = measure(found) if isinstance(found, str) else None, unit(time.scale.unit)
+    given = unit(parted[1]) if parted else None
+    if given is None or tick is None or not given.is_like(UNIT_OF_NUMBERS.over(tick)):
+        return None
+    return parted[0] * given.size * tick.size
+
+
+def plain(word):
+    """A word as TOML would have it: a number without a unit is a number."""
+    try:
+        return Decimal(word)
+    except ArithmeticError:
+        return word
 
 
 def clock_of(text):

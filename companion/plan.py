@@ -6,6 +6,7 @@ from fractions import Fraction
 from itertools import groupby
 
 import programs
+import valid
 from answer import Answer
 from clock import Clock
 from description import Description, rows_of
@@ -81,7 +82,8 @@ def search(plan, need=None, length=None):
             f"the search says {certain} of a passage that ended with {ended}, and the planner's ended with "
             f"{(plan.answer.result, plan.answer.at)}"
         )
-    return Search(need, rows, tuple(runs(certain, rows)), tuple(said))
+    found = valid.cut(runs(certain, rows), valid.within(plan).rows, rows)
+    return Search(need, rows, found, tuple(said))
 
 
 def runs(certain, least):

@@ -67,10 +67,11 @@ def odd_sign(text, place):
 
 
 class Reader:
-    """Reads one rate, given the constants' numbers and the quantities' names."""
+    """Reads one rate, given the constants' numbers, the quantities' names, and of each tide's rise the number and the
+    quantities."""
 
-    def __init__(self, text, constants, quantities):
-        self.text, self.constants, self.quantities = text, constants, quantities
+    def __init__(self, text, constants, quantities, rises):
+        self.text, self.constants, self.quantities, self.rises = text, constants, quantities, rises
         self.tokens = list(tokens(text))
 
     def next_is(self, *signs):
@@ -125,8 +126,10 @@ class Reader:
             number, quantities = self.constants[word], ()
         elif kind == "name" and word in self.quantities:
             number, quantities = Fraction(1), (word,)
+        elif kind == "name" and word in self.rises:
+            number, quantities = self.rises[word]
         elif kind == "name":
-            known = meant(word, {*self.constants, *self.quantities})
+            known = meant(word, {*self.constants, *self.quantities, *self.rises})
             raise Unreadable(place, f"'{word}' is neither a quantity nor a constant of this description{known}")
         else:
             what = f"'{word}'" if word else "the end"
@@ -144,5 +147,5 @@ class Reader:
         return int(word)
 
 
-def read(text, constants, quantities):
-    return Reader(text, constants, quantities).products()
+def read(text, constants, quantities, rises=()):
+    return Reader(text, constants, quantities, rises).products()

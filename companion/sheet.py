@@ -155,8 +155,8 @@ class Writer:
         steps = self.description.time.steps
         if steps > MOST_STEPS:
             self.refuse(
-                f"{steps} steps are past the sheet's range, 1 to {MOST_STEPS}: take longer steps, or write a second "
-                f"description that starts from row {MOST_STEPS} of the first",
+                f"{steps} steps are past the sheet's range, 1 to {MOST_STEPS}: take longer steps, or let "
+                "'companion/passage split' make several descriptions of this one",
                 "time",
                 "length" if self.has_length() else "steps",
             )

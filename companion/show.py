@@ -8,6 +8,7 @@ from fractions import Fraction
 from math import ceil, floor
 
 import explain
+import valid
 from clock import length
 from drift import shares
 from refusals import ADVICE, MEANING, kept
@@ -15,6 +16,10 @@ from units import at_least, at_most, decimal, near, with_unit
 
 OUTWARD = "rounded outward; a radius has in it what its value was rounded by"
 ROUNDED = "the sheet's rounded step and coefficients"
+FOOT = [
+    "For certain means: by these equations, and within what the readings are good to. Not in it, unless the equations have it:",
+    "surge, wind, air pressure, squat, and what the chart's datum or its depths are off by.",
+]
 COLUMNS = ("value", "radius", "at least", "at most", "at least", "at most")
 
 
@@ -129,9 +134,14 @@ def window_words(plan, search):
     return [*clear_words(plan, search), *(f"({words})" for words in notes)]
 
 
+def foremost(plan, search):
+    """What stands first: where there is water enough, where no equation holds any more, and why a step is refused."""
+    return [part for part in (window_words(plan, search), valid.words(plan), refusal_words(plan)) if part]
+
+
 def brief(plan, search):
     """The windows and the refusal alone."""
-    parts = [part for part in (window_words(plan, search), refusal_words(plan)) if part]
+    parts = foremost(plan, search)
     rows = "1 row" if len(plan.answer.rows) == 1 else f"{len(plan.answer.rows)} rows"
     return laid_out(parts or [[f"accepted: {rows}; no need is asked for"]])
 
@@ -139,10 +149,12 @@ def brief(plan, search):
 def text(plan, search, subjects, digits=None):
     """The whole answer as text: what was asked first, the tables after it."""
     parts = [[plan.description.title]] if plan.description.title else []
-    parts += [part for part in (window_words(plan, search), refusal_words(plan)) if part]
+    parts += foremost(plan, search)
     if plan.answer.rows:
         parts += [table(plan, subject, subject.digits if digits is None else digits) for subject in subjects]
         parts.append(remarks(plan))
+    if search is not None and search.runs:
+        parts.append(FOOT)
     return laid_out(parts)
 
 

@@ -61,8 +61,8 @@ class Arguments(Folder):
 
     def test_what_is_said_of_the_arguments(self):
         for words, *arguments in (
-            ["say what to do: write, show, draw or explain"],
-            ["'plan' is none of write, show, draw and explain", "plan"],
+            ["say what to do: write, show, draw, split or explain"],
+            ["'plan' is none of write, show, draw, split and explain", "plan"],
             ["write needs a description, as in passage write day.toml", "write"],
             ["show needs a description", "show"],
             ["draw needs a description and the name of a picture", "draw"],
@@ -87,6 +87,7 @@ class Arguments(Folder):
             "passage write DESCRIPTION",
             "passage show DESCRIPTION",
             "passage draw DESCRIPTION",
+            "passage split DESCRIPTION",
             "passage explain FILE",
             "65",
         ):
@@ -348,8 +349,8 @@ def pattern(printed):
 class Pages(unittest.TestCase):
     def test_the_companions_page_names_every_entry_unit_and_file(self):
         text = (programs.ROOT / "companion" / "README.md").read_text()
-        entries = set().union(description.QUANTITY_ENTRIES, *description.ENTRIES.values())
-        for entry in entries - {"constants", "accuracy", "time", "quantity", "clearance"}:
+        entries = set().union(description.QUANTITY_ENTRIES, description.TIDE_ENTRIES, *description.ENTRIES.values())
+        for entry in entries - {"constants", "accuracy", "time", "tide", "quantity", "clearance"}:
             self.assertIn(f"`{entry}`", text)
         for name in KNOWN.keys() - {"1"}:
             self.assertRegex(text, rf"(?<!\w){name}(?!\w)")
@@ -384,4 +385,4 @@ class Pages(unittest.TestCase):
                             pattern(printed).fullmatch(done.stdout + done.stderr), done.stdout + done.stderr
                         )
                         tried += 1
-        self.assertEqual(tried, 17)
+        self.assertEqual(tried, 20)

@@ -117,6 +117,12 @@ class Tables(unittest.TestCase):
     def text(self, *names, **options):
         return show.text(self.plan, self.search, chosen(self.plan.subjects, names), **options)
 
+    def test_the_foot_stands_where_something_is_called_certain(self):
+        self.assertTrue(self.text("water").endswith("\n\n" + "\n".join(show.FOOT) + "\n"))
+        nowhere = Search(Fraction(1, 2), 1, (), ())
+        for found in (nowhere, None):
+            self.assertNotIn(show.FOOT[1], show.text(self.plan, found, self.plan.subjects))
+
     def test_names_units_and_times(self):
         told = self.text("water")
         self.assertIn("a tide\n", told)
