@@ -5,7 +5,7 @@ import datetime
 from fractions import Fraction
 from math import ceil, floor
 
-from lines import EM, pixels
+from lines import pixels
 from units import decimal
 
 DAY = 86400
@@ -15,7 +15,7 @@ CLOCK = (1, 2, 5, 10, 15, 30, 60, 120, 300, 600, 900, 1800, 3600, 7200, 10800, 2
 SPACINGS = (*PARTS, *CLOCK, *(DAY * days for days in (1, 2, 4, 7, 14, 28, 56)))
 MONTHS = ("Jan", "Feb", "Mar", "Apr", "May", "Jun", "Jul", "Aug", "Sep", "Oct", "Nov", "Dec")
 MOST_MARKS = 12
-APART = EM  # Pixels between the texts of two marks, at the least.
+APART = 10  # Pixels between the texts of two marks, at the least.
 
 
 def multiples(least, most, spacing):
@@ -58,17 +58,35 @@ def numbers_across(left, right, width):
 
 
 def times_across(clock, left, right, width):
-    """Marks at round clock times, as many as have room beside each other."""
+    """Marks at round clock times, as many as have room beside each other; where they leave out the day on which the axis begins,
+    one more on that day, if there is room."""
+
+    def has_room(times):
+        return fits(clock_marks(clock, left, times), left, right, width)
+
     spacings = [spacing for spacing in SPACINGS if (right - left) / spacing <= MOST_MARKS]
-    tried = (clock_marks(clock, left, right, spacing) for spacing in spacings)
-    return next(marks for marks in tried if fits(marks, left, right, width))
+    tried = ([(mark, spacing) for mark in multiples(left, right, spacing)] for spacing in spacings)
+    times = next(times for times in tried if has_room(times))
+    before = ([first, *times] for first in first_day(left) if times and day_of(times[0][0]) != day_of(left))
+    return clock_marks(clock, left, next((more for more in before if has_room(more)), times))
 
 
-def clock_marks(clock, left, right, spacing):
-    """Marks of the clock with their times; the day stands under the first and wherever another begins."""
-    marks, last = [], None if clock.time.dated else 0
-    for mark in multiples(left, right, spacing):
-        day = floor(mark / DAY)
+def first_day(left):
+    """Times of the day on which the axis begins, the roundest first."""
+    firsts = ((spacing * ceil(left / spacing), spacing) for spacing in reversed(SPACINGS))
+    return [first for first in firsts if day_of(first[0]) == day_of(left)]
+
+
+def day_of(time):
+    return floor(time / DAY)
+
+
+def clock_marks(clock, left, times):
+    """Marks at times of the clock, which are told as finely as they are spaced. The day stands under the first and wherever
+    another begins; without a date, the first day needs no word."""
+    marks, last = [], None if clock.time.dated or left < 0 else 0
+    for mark, spacing in times:
+        day = day_of(mark)
         lines = [time_text(mark - day * DAY, spacing)]
         if day != last:
             lines.append(day_text(clock.time, day))
@@ -101,11 +119,10 @@ def date_of(time, day):
 
 
 def time_heading(clock, left, right):
-    """What stands under the axis of time: of a clock, the year of the dates at the marks, or what their days count from."""
+    """What stands under the axis of time: of a clock, from which day to which, or what its days are counted from."""
     if not clock.is_clock:
         return clock.heading()
-    days = floor(left / DAY), floor(right / DAY)
+    days = list(dict.fromkeys((day_of(left), day_of(right))))
     if clock.time.dated:
-        years = sorted({date_of(clock.time, day).year for day in days})
-        return "clock time, " + " to ".join(map(str, years))
-    return "clock time" if days == (0, 0) else "clock time; days are counted from the one on which it begins"
+        return "clock time, " + " to ".join(f"{day_text(clock.time, day)} {date_of(clock.time, day).year}" for day in days)
+    return "clock time" if days == [0] else "clock time; days are counted from the one on which it begins"

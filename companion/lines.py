@@ -6,9 +6,16 @@ import unicodedata
 EM = 15  # Pixels of the size of letters; the headline's are larger.
 HEADLINE = 18
 # Signs by how broad they are, in hundredths of that size.
-CLASSES = {37: " ijl.,'", 46: "frtI:;!|()[]{}/-", 85: "ABCDEFGHJKLNOPQRSTUVXYZ+=<>~#^&$*", 102: "mwMW@%"}
+CLASSES = {
+    29: "il'",
+    37: " j.,",
+    46: "frtI:;!|()[]/-",
+    62: "acekosvxyz",
+    85: "ABCDEFGHJKLNOPQRSTUVXYZ+=<>~#^&$*w",
+    102: "mMW@%",
+}
 BREADTHS = {sign: breadth for breadth, signs in CLASSES.items() for sign in signs}
-USUAL, FOREIGN, DOUBLE = 66, 102, 130
+USUAL, FOREIGN, DOUBLE = 65, 102, 130
 
 
 def sign_breadth(sign):

@@ -7,7 +7,9 @@ import tempfile
 import unittest
 import zlib
 from collections import Counter
+from dataclasses import dataclass
 from fractions import Fraction
+from itertools import combinations
 from pathlib import Path
 from xml.etree import ElementTree
 
@@ -91,17 +93,36 @@ def drawn(plan, search, subject, ending):
         return file.read_bytes()
 
 
+@dataclass
+class Line:
+    """A line of text of an SVG: the size of its letters, where it is put, and what stands there of it."""
+
+    text: str
+    size: float
+    right: float
+    down: float
+    anchor: str
+    turned: bool
+
+    def span(self):
+        """From where to where it goes, by the broadest of the usual fonts: W about as broad as it is high, others 0.6 of it."""
+        length = self.size * (0.4 * self.text.count("W") + 0.6 * len(self.text))
+        middle = self.down if self.turned else self.right
+        before = {"start": 0, "middle": length / 2, "end": length}[self.anchor]
+        return middle - before, middle - before + length
+
+
 def texts(svg):
-    """An SVG's lines of text, in the order in which they are drawn, each with the size of its letters."""
-    found = []
+    """An SVG's lines of text, in the order in which they are drawn."""
     for group in ElementTree.fromstring(svg).iter(f"{SPACE}g"):
-        size = group.get("font-size")
-        found += [("".join(text.itertext()), float(size)) for text in group.findall(f"{SPACE}text") if size]
-    return found
+        for text in group.findall(f"{SPACE}text"):
+            right, down, turned = re.match(r"translate\((.*),(.*)\)(.*)", group.get("transform")).groups()
+            size, anchor = float(group.get("font-size")), group.get("text-anchor")
+            yield Line("".join(text.itertext()), size, float(right), float(down), anchor, bool(turned))
 
 
 def joined(svg):
-    return " ".join(" ".join(text for text, _ in texts(svg)).split())
+    return " ".join(" ".join(line.text for line in texts(svg)).split())
 
 
 def labels(lines):
@@ -259,20 +280,31 @@ class Axes(unittest.TestCase):
         hours[0].append("30 Nov")
         hours[6].append("1 Dec")
         self.assertEqual(found, [(text, 3600 * hour) for hour, text in enumerate(hours, 18)])
-        self.assertIn("clock time, 2026", labels(self.lines))
+        self.assertIn("clock time, 30 Nov 2026 to 1 Dec 2026", labels(self.lines))
 
     def test_several_days_over_the_end_of_a_year(self):
         found = self.marks("begin = 2027-12-30T09:20:00\n", 240, "20 min")
         days = [text for text, _ in found if len(text) == 2]
         self.assertEqual(days, [["12:00", "30 Dec"], *([["00:00", day] for day in ("31 Dec", "1 Jan", "2 Jan")])])
         self.assertEqual(found[2], (["12:00"], 36 * 3600))
-        self.assertIn("clock time, 2027 to 2028", labels(self.lines))
+        self.assertIn("clock time, 30 Dec 2027 to 2 Jan 2028", labels(self.lines))
 
     def test_months_have_days_alone(self):
         found = self.marks("begin = 2028-02-20T00:00:00\n", 100, "9 h")
         self.assertEqual(found[0], (["00:00", "20 Feb"], 0))
         self.assertEqual(found[3], (["00:00", "3 Mar"], 12 * 86400))
         self.assertLessEqual(len(found), 12)
+
+    def test_the_first_day_has_a_mark_where_there_is_room(self):
+        found = self.marks("begin = 2026-11-30T22:07:00\n", 120)
+        self.assertEqual([text for text, _ in found][:3], [["22:15", "30 Nov"], ["00:00", "1 Dec"], ["02:00"]])
+        found = self.marks("begin = 2026-11-30T23:50:00\n", 120)
+        self.assertEqual(found[0], (["00:00", "1 Dec"], 86400))
+        self.assertIn("clock time, 30 Nov 2026 to 1 Dec 2026", labels(self.lines))
+        found = self.marks("begin = 00:10:00\n", 6, "-10 min")
+        self.assertEqual(found[0], (["23:10", "-1 d"], -3000))
+        found = self.marks("begin = 20:00:00\n", 123, "-10 min")
+        self.assertEqual(found[0][0], ["00:00", "0 d"])
 
     def test_without_a_date_the_days_are_counted(self):
         found = self.marks("begin = 18:00:00\n", 60)
@@ -354,11 +386,25 @@ class Texts(unittest.TestCase):
         )
         self.assertIn(f"clearance, {self.ABOUT} (m)", joined(svg))
 
-    def test_no_line_is_too_long(self):
-        """By what letters are in the broadest of the usual fonts: W about as broad as it is high, others 0.6 of it."""
-        for text, size in texts(self.picture(".svg", *self.LONG)):
-            wide = text.count("W")
-            self.assertLess(size * (wide + (len(text) - wide) * 0.6), draw.WIDTH, text)
+    def test_no_line_is_cut_and_none_stands_upon_another(self):
+        svg = self.picture(".svg", *self.LONG)
+        high = int(ElementTree.fromstring(svg).get("viewBox").split()[3])
+        found = list(texts(svg))
+        for line in found:
+            first, last = line.span()
+            self.assertGreater(first, 0, line)
+            self.assertLess(last, high if line.turned else draw.WIDTH, line)
+            self.assertLess(line.size, line.down, line)
+            self.assertLess(line.down, high - line.size / 3, line)
+        level = [line for line in found if not line.turned]
+        for line, other in combinations(level, 2):
+            if abs(line.down - other.down) < max(line.size, other.size):
+                beside = sorted((line.span(), other.span()))
+                self.assertLess(beside[0][1], beside[1][0], (line, other))
+
+    def test_signs_that_mean_something_in_an_svg(self):
+        title = "depth < 3 m & speed > 2 kn"
+        self.assertIn(title, joined(self.picture(".svg", ('title = "a tide"', f'title = "{title}"'))))
 
     def test_the_picture_grows_and_nothing_touches_its_edge(self):
         _, (_, low) = pixels(self.picture(".png"))
