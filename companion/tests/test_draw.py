@@ -116,7 +116,7 @@ def texts(svg):
     """An SVG's lines of text, in the order in which they are drawn."""
     for group in ElementTree.fromstring(svg).iter(f"{SPACE}g"):
         for text in group.findall(f"{SPACE}text"):
-            right, down, turned = re.match(r"translate\((.*),(.*)\)(.*)", group.get("transform")).groups()
+            right, down, turned = re.match(r"translate\((.*?),(.*?)\)(.*)", group.get("transform")).groups()
             size, anchor = float(group.get("font-size")), group.get("text-anchor")
             yield Line("".join(text.itertext()), size, float(right), float(down), anchor, bool(turned))
 
