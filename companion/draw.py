@@ -27,6 +27,7 @@ BROADEST_BAR = 5
 LOOK_ALIKE = {"'": "\N{RIGHT SINGLE QUOTATION MARK}", "`": "\N{LEFT SINGLE QUOTATION MARK}", "\\": "\N{SET MINUS}"}
 MARGIN = Fraction(1, 20)
 MOST_HEIGHTS = 10  # Marks of the upright axis.
+MOST_BESIDE = 6  # Lines of the label beside it.
 MOST_WINDOWS = 6  # That are told one by one.
 
 
@@ -55,6 +56,8 @@ class Picture:
         self.least, self.most = self.extent()
         self.heights = number_marks(self.least, self.most, MOST_HEIGHTS)
         self.label = wrapped(title(subject), PLOT)
+        self.over = title(subject) if len(self.label) > MOST_BESIDE else None
+        self.label = [] if self.over else self.label
         self.beside = EDGE + len(self.label) * LINE_HEIGHT + max(pixels(text) for _, [text] in self.heights) + GAP
         across = WIDTH - RIGHT - self.beside
         self.marks = (
@@ -92,8 +95,9 @@ class Picture:
             yield f"set object rectangle from {number(left)},{number(bottom)} to {number(right)},{number(top)} {style} back"
 
     def notes(self):
-        """What the marks say, under the headline: where it is clear, and why a step was refused."""
-        return [*self.clear_notes(), *refusal_words(self.plan)[:1]]
+        """What the marks say, under the headline: where it is clear, and why a step was refused; before it what is drawn, where
+        that has no room beside the plot."""
+        return [*([self.over] if self.over else []), *self.clear_notes(), *refusal_words(self.plan)[:1]]
 
     def clear_notes(self):
         """A sentence for each clear run; of very many the first, and how many more there are."""

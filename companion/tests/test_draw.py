@@ -402,6 +402,12 @@ class Texts(unittest.TestCase):
                 beside = sorted((line.span(), other.span()))
                 self.assertLess(beside[0][1], beside[1][0], (line, other))
 
+    def test_a_label_that_has_no_room_beside_the_plot_stands_over_it(self):
+        about = "word " * 400 + "and an end"
+        svg = self.picture(".svg", ("weights =", f'about = "{about}"\nweights ='))
+        self.assertIn(f"clearance, {about} (m)", joined(svg))
+        self.assertFalse([line for line in texts(svg) if line.turned])
+
     def test_signs_that_mean_something_in_an_svg(self):
         title = "depth < 3 m & speed > 2 kn"
         self.assertIn(title, joined(self.picture(".svg", ('title = "a tide"', f'title = "{title}"'))))
