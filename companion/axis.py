@@ -1,5 +1,5 @@
-"""The marks of a picture's axes: at round numbers or round clock times, and what stands under each, the day too where it
-changes."""
+"""The marks of a picture's axes: at round numbers or round clock times, and what stands under each, the day too where
+it changes."""
 
 import datetime
 from fractions import Fraction
@@ -24,8 +24,8 @@ def multiples(least, most, spacing):
 
 
 def number_spacing(span, most_marks):
-    """The narrowest round spacing that has no more marks: 1, 2 or 5 of some place, and how many places it has behind the
-    point."""
+    """The narrowest round spacing that has no more marks: 1, 2 or 5 of some place, and how many places it has behind
+    the point."""
     places = 0
     while span * 10**places < 1:
         places += 1
@@ -58,8 +58,8 @@ def numbers_across(left, right, width):
 
 
 def times_across(clock, left, right, width):
-    """Marks at round clock times, as many as have room beside each other; where they leave out the day on which the axis begins,
-    one more on that day, if there is room."""
+    """Marks at round clock times, as many as have room beside each other; where they leave out the day on which the
+    axis begins, one more on that day, if there is room."""
 
     def has_room(times):
         return fits(clock_marks(clock, left, times), left, right, width)
@@ -82,8 +82,8 @@ def day_of(time):
 
 
 def clock_marks(clock, left, times):
-    """Marks at times of the clock, which are told as finely as they are spaced. The day stands under the first and wherever
-    another begins; without a date, the first day needs no word."""
+    """Marks at times of the clock, which are told as finely as they are spaced. The day stands under the first and
+    wherever another begins; without a date, the first day needs no word."""
     marks, last = [], None if clock.time.dated or left < 0 else 0
     for mark, spacing in times:
         day = day_of(mark)
@@ -124,5 +124,6 @@ def time_heading(clock, left, right):
         return clock.heading()
     days = list(dict.fromkeys((day_of(left), day_of(right))))
     if clock.time.dated:
-        return "clock time, " + " to ".join(f"{day_text(clock.time, day)} {date_of(clock.time, day).year}" for day in days)
+        dates = (f"{day_text(clock.time, day)} {date_of(clock.time, day).year}" for day in days)
+        return "clock time, " + " to ".join(dates)
     return "clock time" if days == [0] else "clock time; days are counted from the one on which it begins"

@@ -5,16 +5,13 @@ hatched; and in words over it what the marks say, and under it what they are."""
 from fractions import Fraction
 
 from axis import number_marks, numbers_across, time_heading, times_across
-from lines import EM, HEADLINE, pixels, wrapped
+from lines import pixels, wrapped
+from page import EDGE, GAP, LINE_HEIGHT, PLOT, RIGHT, WIDTH, Page, across, box, number, upright
 from show import clear_words, refusal_words, title
 from units import at_least, with_unit
 
-# Pixels. A picture is as high as its texts need.
-WIDTH, PLOT, EDGE, RIGHT = 960, 400, 16, 44
-LINE_HEIGHT, HEADLINE_HEIGHT, GAP = 20, 25, 8
-SWATCH, COLUMNS = 44, 2
-FONTS = {".svg": ("svg", "dynamic", 13), ".png": ("pngcairo", "", 11)}
-HEADLINE_MORE = 2  # Points by which the headline's letters are larger.
+# gnuplot's kind of picture, an option of it, and the points of its letters, by a file's ending.
+KINDS = {".svg": ("svg", "dynamic", 13), ".png": ("pngcairo", "", 11)}
 BAND, LINE, SILL, CLEAR, REFUSED, NEED = "#f6c0c0", "#c00000", "#000000", "#009e73", "#8a8a8a", "#2a7fd4"
 CLEAR_STYLE = f"fc rgb '{CLEAR}' fillstyle transparent solid 0.18 border lc rgb '{CLEAR}'"
 REFUSED_STYLE = f"fc rgb '{REFUSED}' fillstyle pattern 5 border lc rgb '{REFUSED}'"
@@ -23,22 +20,10 @@ BAND_STYLE = f"fc rgb '{BAND}' fillstyle solid 1 noborder"
 NEED_STYLE = f"dashtype 2 linewidth 2 linecolor rgb '{NEED}'"
 VALUE_STYLE = f"linewidth 1.5 linecolor rgb '{LINE}'"
 BROADEST_BAR = 5
-# What would mean something to gnuplot, and what is drawn in its place.
-LOOK_ALIKE = {"'": "\N{RIGHT SINGLE QUOTATION MARK}", "`": "\N{LEFT SINGLE QUOTATION MARK}", "\\": "\N{SET MINUS}"}
 MARGIN = Fraction(1, 20)
 MOST_HEIGHTS = 10  # Marks of the upright axis.
 MOST_BESIDE = 6  # Lines of the label beside it.
 MOST_WINDOWS = 6  # That are told one by one.
-
-
-def quoted(text):
-    """A text for gnuplot, between apostrophes, of which it has none of its own left: nothing in it is a command."""
-    plain = "".join(LOOK_ALIKE.get(sign, sign) if sign.isprintable() else " " for sign in text)
-    return f"'{plain}' noenhanced"
-
-
-def number(fraction):
-    return f"{float(fraction):.15g}"
 
 
 class Picture:
@@ -55,18 +40,18 @@ class Picture:
         self.left, self.right = self.times(0, self.last)
         self.least, self.most = self.extent()
         self.heights = number_marks(self.least, self.most, MOST_HEIGHTS)
-        self.label = wrapped(title(subject), PLOT)
-        self.over = title(subject) if len(self.label) > MOST_BESIDE else None
-        self.label = [] if self.over else self.label
+        label = wrapped(title(subject), PLOT)
+        self.label = label if len(label) <= MOST_BESIDE else []
         self.beside = EDGE + len(self.label) * LINE_HEIGHT + max(pixels(text) for _, [text] in self.heights) + GAP
-        across = WIDTH - RIGHT - self.beside
-        self.marks = (
-            times_across(self.clock, self.left, self.right, across)
-            if self.clock.is_clock
-            else numbers_across(self.left, self.right, across)
-        )
-        self.bar = min(BROADEST_BAR, max(1, Fraction(across, 2 * self.last)))
+        broad = WIDTH - RIGHT - self.beside
+        self.marks = self.time_marks(broad)
+        self.bar = min(BROADEST_BAR, max(1, Fraction(broad, 2 * self.last)))
         self.radius_style = f"linewidth {number(self.bar)} linecolor rgb '{LINE}'"
+
+    def time_marks(self, broad):
+        if self.clock.is_clock:
+            return times_across(self.clock, self.left, self.right, broad)
+        return numbers_across(self.left, self.right, broad)
 
     def extent(self):
         """The least and the most height of the picture, at least two of the last place that a table has apart."""
@@ -92,12 +77,14 @@ class Picture:
 
     def objects(self):
         for (left, right), (bottom, top), style in self.boxes():
-            yield f"set object rectangle from {number(left)},{number(bottom)} to {number(right)},{number(top)} {style} back"
+            corners = f"from {number(left)},{number(bottom)} to {number(right)},{number(top)}"
+            yield f"set object rectangle {corners} {style} back"
 
     def notes(self):
-        """What the marks say, under the headline: where it is clear, and why a step was refused; before it what is drawn, where
-        that has no room beside the plot."""
-        return [*([self.over] if self.over else []), *self.clear_notes(), *refusal_words(self.plan)[:1]]
+        """What the marks say, under the headline: where it is clear, and why a step was refused; before that what is
+        drawn, where it has no room beside the plot."""
+        drawn = [] if self.label else [title(self.subject)]
+        return [*drawn, *self.clear_notes(), *refusal_words(self.plan)[:1]]
 
     def clear_notes(self):
         """A sentence for each clear run; of very many the first, and how many more there are."""
@@ -119,7 +106,7 @@ class Picture:
         if self.sill is not None:
             yield box(SILL_STYLE), "sill"
         if self.runs:
-            clear = "clear, for certain" if self.subject.is_clearance else "the clearance is clear, for certain"
+            clear = "clear, for certain" if self.subject.is_clearance else "the clearance is enough, for certain"
             yield box(CLEAR_STYLE), clear
         if self.refused is not None:
             yield box(REFUSED_STYLE), "refused step"
@@ -156,11 +143,11 @@ class Picture:
         yield f"$rows using 1:2 with points pointtype 7 pointsize {number(self.bar / 12)} linecolor rgb '{LINE}'"
 
     def script(self, file, ending):
-        page = Page(FONTS[ending][2])
-        self.lay(page)
-        terminal, more, size = FONTS[ending]
+        kind, option, points = KINDS[ending]
+        page = self.page(points)
+        size = f"size {WIDTH},{page.down}"
         yield "set encoding utf8"
-        yield f"set terminal {terminal} size {WIDTH},{page.down} {more} enhanced font 'sans,{size}' background rgb 'white'"
+        yield f"set terminal {kind} {size} {option} enhanced font 'sans,{points}' background rgb 'white'"
         yield f"set output '{file}'"
         yield from self.data()
         yield "unset key"
@@ -171,90 +158,21 @@ class Picture:
         yield from page.commands()
         yield "plot " + ", ".join(self.plots())
 
-    def lay(self, page):
-        """Lays the texts and the plot from the top to the bottom of a page."""
+    def page(self, points):
+        """The texts and the plot, from the top to the bottom."""
+        page = Page(points)
         page.skip(GAP)
-        page.headline(wrapped(self.plan.description.title or title(self.subject), WIDTH - 2 * EDGE, HEADLINE))
+        page.headline(self.plan.description.title or title(self.subject))
         for note in self.notes():
-            page.centred(wrapped(note, WIDTH - 2 * EDGE))
+            page.centred(note)
         page.skip(GAP)
         page.plot(self.beside, self.label)
         page.skip(GAP + LINE_HEIGHT * max((len(lines) for _, lines in self.marks), default=0))
-        page.centred(wrapped(time_heading(self.clock, self.left, self.right), WIDTH - 2 * EDGE))
+        page.centred(time_heading(self.clock, self.left, self.right))
         page.skip(GAP)
         page.legend(list(self.legend()))
         page.skip(GAP)
-
-
-class Page:
-    """What stands where, in pixels from the upper left corner. How high the page is comes out last, and gnuplot counts from
-    below: so each command waits for the height."""
-
-    def __init__(self, size):
-        self.size, self.down, self.waiting = size, 0, []
-
-    def skip(self, pixels):
-        self.down += pixels
-
-    def commands(self):
-        return [command(self.place) for command in self.waiting]
-
-    def place(self, right, down):
-        """A place for gnuplot."""
-        return f"screen {number(Fraction(right, WIDTH))},screen {number(1 - Fraction(down, self.down))}"
-
-    def text(self, line, right, down, how):
-        self.waiting.append(lambda place: f"set label {quoted(line)} at {place(right, down)} {how}")
-
-    def lines(self, lines, height, how):
-        for line in lines:
-            self.text(line, WIDTH // 2, self.down + height // 2, how)
-            self.skip(height)
-
-    def headline(self, lines):
-        self.lines(lines, HEADLINE_HEIGHT, f"center font ',{self.size + HEADLINE_MORE}'")
-
-    def centred(self, lines):
-        self.lines(lines, LINE_HEIGHT, "center")
-
-    def plot(self, beside, label):
-        """Leaves room for the plot, with a label upright beside it."""
-        top, bottom = self.down, self.down + PLOT
-        for place, line in enumerate(label):
-            self.text(line, EDGE + LINE_HEIGHT * place, (top + bottom) // 2, "center rotate by 90")
-        for name, side in (("l", beside), ("r", WIDTH - RIGHT)):
-            self.waiting.append(lambda _, n=name, s=side: f"set {n}margin at screen {number(Fraction(s, WIDTH))}")
-        for name, side in (("t", top), ("b", bottom)):
-            self.waiting.append(lambda _, n=name, s=side: f"set {n}margin at screen {number(1 - Fraction(s, self.down))}")
-        self.skip(PLOT)
-
-    def legend(self, entries):
-        """Marks with their words, in columns."""
-        column = (WIDTH - 2 * EDGE) // COLUMNS
-        for first in range(0, len(entries), COLUMNS):
-            height = 0
-            for place, (mark, words) in enumerate(entries[first : first + COLUMNS]):
-                left = EDGE + place * column + EM
-                lines = wrapped(words, column - SWATCH - 4 * EM)
-                self.waiting.append(lambda at, m=mark, l=left, d=self.down + LINE_HEIGHT // 2: m(at, l, d))
-                for count, line in enumerate(lines):
-                    self.text(line, left + SWATCH + EM, self.down + LINE_HEIGHT * count + LINE_HEIGHT // 2, "left")
-                height = max(height, LINE_HEIGHT * len(lines))
-            self.skip(height)
-
-
-def box(style):
-    """A mark of the legend: a box, filled as what it stands for."""
-    return lambda at, left, down: f"set object rectangle from {at(left, down + 6)} to {at(left + SWATCH, down - 6)} {style}"
-
-
-def across(style):
-    return lambda at, left, down: f"set arrow from {at(left, down)} to {at(left + SWATCH, down)} nohead {style}"
-
-
-def upright(style):
-    middle = SWATCH // 2
-    return lambda at, left, down: f"set arrow from {at(left + middle, down + 8)} to {at(left + middle, down - 8)} nohead {style}"
+        return page
 
 
 def mark_text(mark):

@@ -1,5 +1,5 @@
-"""Which signs this machine has letters for. Where it has none gnuplot's PNG has a blot in their place, larger than the picture;
-in an SVG the letters are those of whoever looks at it."""
+"""Which signs this machine has letters for. Where it has none gnuplot's PNG has a blot in their place, larger than the
+picture; in an SVG the letters are those of whoever looks at it."""
 
 from functools import cache
 

@@ -1,5 +1,5 @@
-"""The lines of a picture's texts. Nothing here can ask how broad a text is drawn, so each sign is counted as broad as it is in
-the broadest of the usual fonts: a line may be shorter than it had to be, but is never cut."""
+"""The lines of a picture's texts. Nothing here can ask how broad a text is drawn, so each sign is counted as broad as
+it is in the broadest of the usual fonts: a line may be shorter than it had to be, but is never cut."""
 
 import unicodedata
 

@@ -16,6 +16,7 @@ from xml.etree import ElementTree
 import draw
 import fonts
 import lines
+import page
 import programs
 from answer import parsed
 from plan import Search
@@ -105,7 +106,7 @@ class Line:
     turned: bool
 
     def span(self):
-        """From where to where it goes, by the broadest of the usual fonts: W about as broad as it is high, others 0.6 of it."""
+        """From where to where it goes, by the broadest of the usual fonts: W is about as broad as high, others 0.6."""
         length = self.size * (0.4 * self.text.count("W") + 0.6 * len(self.text))
         middle = self.down if self.turned else self.right
         before = {"start": 0, "middle": length / 2, "end": length}[self.anchor]
@@ -203,7 +204,7 @@ class Scripts(unittest.TestCase):
         lines = self.lines(self.plan.subjects[0], self.search)
         self.assertEqual(sum(draw.CLEAR in line and line.endswith(" back") for line in lines), 1)
         self.assertIn("clearance: at least 0.5 m from 08:00 to 08:10, for certain", labels(lines))
-        self.assertIn("the clearance is clear, for certain", labels(lines))
+        self.assertIn("the clearance is enough, for certain", labels(lines))
 
     def test_the_legend_has_what_there_is(self):
         found = labels(self.lines(self.plan.subjects[-1], self.search))
@@ -377,7 +378,8 @@ class Texts(unittest.TestCase):
         self.assertEqual(joined(svg).count("The upper gate of the northern lock,"), 6)
         self.assertIn("W" * 150 + " and so on", joined(svg).replace("W W", "WW"))
         self.assertIn(
-            f"{self.ABOUT}: at least 0.5 m from 2026-11-30 23:50 to 2026-12-01 00:00, for certain and all the way (row 1)",
+            f"{self.ABOUT}: at least 0.5 m from 2026-11-30 23:50 to 2026-12-01 00:00, "
+            "for certain and all the way (row 1)",
             joined(svg),
         )
         self.assertIn(
@@ -393,7 +395,7 @@ class Texts(unittest.TestCase):
         for line in found:
             first, last = line.span()
             self.assertGreater(first, 0, line)
-            self.assertLess(last, high if line.turned else draw.WIDTH, line)
+            self.assertLess(last, high if line.turned else page.WIDTH, line)
             self.assertLess(line.size, line.down, line)
             self.assertLess(line.down, high - line.size / 3, line)
         level = [line for line in found if not line.turned]
@@ -416,8 +418,8 @@ class Texts(unittest.TestCase):
         _, (_, low) = pixels(self.picture(".png"))
         png = self.picture(".png", *self.LONG)
         _, (width, high) = pixels(png)
-        self.assertEqual(width, draw.WIDTH)
-        self.assertGreater(high, low + 5 * draw.LINE_HEIGHT)
+        self.assertEqual(width, page.WIDTH)
+        self.assertGreater(high, low + 5 * page.LINE_HEIGHT)
         found = list(png_lines(png))
         self.assertEqual({line[:12] + line[-12:] for line in found}, {WHITE * 8})
         self.assertEqual(set(found[:3] + found[-3:]), {WHITE * width})
@@ -476,7 +478,8 @@ class OldPictures(Folder):
     def test_gnuplot_fails_or_writes_a_part(self):
         failing = "import programs\ndef gnuplot(*_): raise programs.Failed('no')\nprograms.gnuplot = gnuplot"
         self.fails(70, "passage: no\n", "tide.toml", "a.svg", "b.png", change=failing)
-        half = "import programs, pathlib; whole = programs.gnuplot\ndef gnuplot(script, folder):\n    whole(script, folder)\n"
+        half = "import programs, pathlib; whole = programs.gnuplot\n"
+        half += "def gnuplot(script, folder):\n    whole(script, folder)\n"
         half += "    for file in pathlib.Path(folder).iterdir(): file.write_bytes(file.read_bytes()[:-9])\n"
         half += "programs.gnuplot = gnuplot"
         for order in (("a.svg", "b.png"), ("b.png", "a.svg")):
@@ -500,7 +503,8 @@ class OldPictures(Folder):
 
     def test_one_that_cannot_be_removed_is_told(self):
         kept = "import pathlib; unlink = pathlib.Path.unlink\ndef keep(path, **how):\n"
-        kept += "    if path.name == 'a.svg': raise PermissionError(13, 'not yours', path.name)\n    unlink(path, **how)\n"
+        kept += "    if path.name == 'a.svg': raise PermissionError(13, 'not yours', path.name)\n"
+        kept += "    unlink(path, **how)\n"
         kept += "pathlib.Path.unlink = keep"
         done = self.fails(74, "not yours: 'a.svg'", "tide.toml", "a.svg", "b.png", change=kept, gone=("b.png",))
         self.assertIn("passage: the older picture 'a.svg' is still there\n", done.stderr)
@@ -562,7 +566,7 @@ class Drawn(unittest.TestCase):
         found, size = pixels(drawn(plan, None, subject, ".png"))
         svg = ElementTree.fromstring(drawn(plan, None, subject, ".svg"))
         self.assertEqual(svg.get("viewBox"), "0 0 {} {}".format(*size))
-        self.assertEqual(size[0], draw.WIDTH)
+        self.assertEqual(size[0], page.WIDTH)
         for name, least in ((draw.BAND, 500), (draw.LINE, 100), (draw.SILL, 1000), (draw.REFUSED, 200)):
             self.assertGreater(found.get(rgb(name), 0), least, name)
 
