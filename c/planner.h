@@ -93,11 +93,14 @@ extern "C" {
 
 /*
  * The most quantities and the most steps that a sheet may have; the most steps that a stored sheet may have, which
- * planner_convert makes two sheets of where there are more than PLANNER_MOST_STEPS; how many units make 1.
+ * planner_convert makes two sheets of where there are more than PLANNER_MOST_STEPS; the largest weight, and the largest base
+ * or need, of a search for water enough, without their sign, in units; how many units make 1.
  */
 #define PLANNER_MOST_QUANTITIES INT64_C(8)
 #define PLANNER_MOST_STEPS INT64_C(240)
 #define PLANNER_STORED_STEPS INT64_C(400)
+#define PLANNER_MOST_WEIGHT INT64_C(67108864)
+#define PLANNER_MOST_NEED INT64_C(536870912)
 #define PLANNER_SCALE INT64_C(16777216)
 
 /*
@@ -253,9 +256,9 @@ size_t planner_convert(const uint8_t *sheet, size_t sheet_length,
  *   n, count              the rows' quantities, 1 to PLANNER_MOST_QUANTITIES, and how many rows are looked through, 0 to
  *                         PLANNER_MOST_STEPS; planner_run's summary has both of the rows that it wrote
  *   rows, rows_length     the rows, at their places above; no place past the count rows is looked at
- *   weights               for each quantity a weight, -67108864 to 67108864; there have to be PLANNER_MOST_QUANTITIES
- *                         places, but those past n are not looked at
- *   base, need            each -536870912 to 536870912
+ *   weights               for each quantity a weight, -PLANNER_MOST_WEIGHT to PLANNER_MOST_WEIGHT; there have to be
+ *                         PLANNER_MOST_QUANTITIES places, but those past n are not looked at
+ *   base, need            each -PLANNER_MOST_NEED to PLANNER_MOST_NEED
  *   run                   how many rows in a row, 1 to PLANNER_MOST_STEPS
  *
  * Weights, base and need are in units, of which 2^24 (PLANNER_SCALE) make 1: a weight of PLANNER_SCALE takes a quantity as

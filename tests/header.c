@@ -40,6 +40,7 @@ static void check_products(void)
     CHECK(sizeof PLANNER_SHEET_LENGTH == 8 && sizeof PLANNER_ROWS_LENGTH == 8 && sizeof PLANNER_TEXT_LENGTH == 8);
     CHECK(sizeof PLANNER_CONVERTED_LENGTH == 8 && sizeof PLANNER_MOST_QUANTITIES == 8 && sizeof PLANNER_MOST_STEPS == 8);
     CHECK(sizeof PLANNER_STORED_STEPS == 8 && sizeof PLANNER_SCALE == 8);
+    CHECK(sizeof PLANNER_MOST_WEIGHT == 8 && sizeof PLANNER_MOST_NEED == 8 && -PLANNER_MOST_NEED < 0);
 }
 
 /* The constants beside whole numbers of either kind, without a warning. */
