@@ -7,7 +7,7 @@
  *
  *     planner_answer          the answer to a sheet, as text
  *     planner_run             the same as numbers: the rows, and a summary of what came of it
- *     planner_first_clear     the first row from which on there is water enough for certain
+ *     planner_first_clear     the first of so many rows in a row with water enough for certain
  *     planner_convert         sheets of up to 240 steps from a stored sheet of up to 400
  *     planner_refusal_words   what a refusal's number says
  *
@@ -52,8 +52,8 @@
  *   call it at the same time, each with buffers of its own. A call needs less than 64 kB of stack.
  * - No pointer may be null, even with the length 0. A buffer has to have the length that is told with it.
  * - No buffer that it writes may overlap another.
- * - Whatever the bytes and numbers in the buffers are, it ends, and says of what is wrong by number what it is. Nothing else
- *   is a failure.
+ * - Whatever bytes and numbers it is given, it ends, and tells what is wrong with them by the number of a refusal. It fails in
+ *   no other way.
  *
  * The library is for x86-64.
  */
