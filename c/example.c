@@ -11,6 +11,8 @@
  *                                        before it are looked through. Where the sheet cannot be read, there are only the
  *                                        two lines
  *
+ * Why a sheet, a step or a query is refused is said in words on standard error too.
+ *
  * The exit status is the answer's result or, where that is 0, the number with which the query is refused; of a conversion
  * 0; 64 where the arguments are not understood or the sheet has no such quantity; 74 where nothing could be read or
  * written.
@@ -28,6 +30,18 @@ static uint8_t sheet[PLANNER_SHEET_LENGTH];
 static int64_t rows[PLANNER_ROWS_LENGTH];
 static uint8_t text[PLANNER_TEXT_LENGTH];
 static uint8_t converted[PLANNER_CONVERTED_LENGTH];
+
+/* Says in words why the sheet is refused, if it is. */
+static void say_refusal(const uint64_t *summary)
+{
+    const char *words = planner_refusal_words((int64_t)summary[PLANNER_RESULT]);
+    if (summary[PLANNER_RESULT] == PLANNER_ACCEPTED)
+        return;
+    if (summary[PLANNER_AT] == 0)
+        fprintf(stderr, "example: the sheet is refused: %s\n", words);
+    else
+        fprintf(stderr, "example: step %" PRIu64 " is refused: %s\n", summary[PLANNER_AT], words);
+}
 
 static void print_end(const uint64_t *summary)
 {
@@ -51,18 +65,20 @@ struct query {
     int64_t quantity, need, run;
 };
 
-/* Prints the first row with enough of a quantity all through its step. Gives the number of the refusal, or 0. */
+/* Prints the first row with enough of a quantity all through its step. Gives the number of the refusal, or that for none. */
 static int print_first(const uint64_t *summary, struct query query)
 {
     int64_t weights[PLANNER_MOST_QUANTITIES] = {0};
     weights[query.quantity - 1] = PLANNER_SCALE;
     int64_t found = planner_first_clear(summary[PLANNER_QUANTITIES], summary[PLANNER_ROWS], rows, PLANNER_ROWS_LENGTH,
                                         weights, 0, query.need, (size_t)query.run);
-    if (found < 0)
-        printf("refused=%" PRId64 "\n", -found);
-    else
+    if (found >= 0) {
         printf("first=%" PRId64 "\n", found);
-    return found < 0 ? (int)-found : 0;
+        return PLANNER_ACCEPTED;
+    }
+    printf("refused=%" PRId64 "\n", -found);
+    fprintf(stderr, "example: the query is refused: %s\n", planner_refusal_words(found));
+    return (int)-found;
 }
 
 static int is_number(const char *word, int64_t *number)
@@ -91,7 +107,7 @@ int main(int argc, char **argv)
     int for_rows = argc == 2 && strcmp(argv[1], "rows") == 0;
     int for_conversion = argc == 2 && strcmp(argv[1], "convert") == 0;
     int for_first = is_query(argc, argv, &query);
-    int refused = 0;
+    int refused = PLANNER_ACCEPTED;
     if (argc > 1 && !for_rows && !for_conversion && !for_first) {
         fputs("Usage: example [rows | convert | first QUANTITY NEED RUN] <SHEET\n", stderr);
         return NOT_UNDERSTOOD;
@@ -105,6 +121,7 @@ int main(int argc, char **argv)
         return was_written() ? 0 : FAILED;
     }
     planner_run(sheet, sheet_length, rows, PLANNER_ROWS_LENGTH, summary);
+    say_refusal(summary);
     if (for_rows) {
         print_rows(summary);
     } else if (for_first) {
@@ -123,5 +140,5 @@ int main(int argc, char **argv)
     }
     if (!was_written())
         return FAILED;
-    return summary[PLANNER_RESULT] != 0 ? (int)summary[PLANNER_RESULT] : refused;
+    return summary[PLANNER_RESULT] != PLANNER_ACCEPTED ? (int)summary[PLANNER_RESULT] : refused;
 }

@@ -19,8 +19,10 @@ fn main() {
     println!("cargo:rerun-if-changed={HEADER}");
     let header = fs::read_to_string(HEADER).expect("c/planner.h stands beside reference/");
     for name in SIZES.map(|name| format!("PLANNER_{name}")) {
-        let define = format!("#define {name} ");
-        let size = header.lines().find_map(|line| line.strip_prefix(&define));
+        let define = format!("#define {name} INT64_C(");
+        let size = header
+            .lines()
+            .find_map(|line| line.strip_prefix(&define)?.strip_suffix(')'));
         println!("cargo:rustc-env={name}={}", size.expect(&name));
     }
 
