@@ -3,15 +3,15 @@
 
 use crate::rounding::SCALE;
 use crate::rows::{self, Parts};
-use crate::sheet::{LIMIT, MOST_QUANTITIES, Refusal};
+use crate::sheet::{LIMIT, MOST_QUANTITIES, Refusal, STEPS};
 use std::ops::RangeInclusive;
 
 /// How many rows may be looked through.
-pub const COUNT: RangeInclusive<usize> = 0..=240;
+pub const COUNT: RangeInclusive<usize> = 0..=*STEPS.end() as usize;
 pub const WEIGHT: RangeInclusive<i64> = -(1 << 26)..=1 << 26;
 pub const BASE: RangeInclusive<i64> = -LIMIT..=LIMIT;
 pub const NEED: RangeInclusive<i64> = -LIMIT..=LIMIT;
-pub const RUN: RangeInclusive<usize> = 1..=240;
+pub const RUN: RangeInclusive<usize> = 1..=*STEPS.end() as usize;
 /// A value, a low or a high, and a radius of a row that is looked through, whoever wrote it.
 pub const ROW_VALUE: RangeInclusive<i64> = -(1 << 31)..=1 << 31;
 pub const ROW_RADIUS: RangeInclusive<i64> = 0..=1 << 31;

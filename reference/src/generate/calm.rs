@@ -77,7 +77,7 @@ pub fn calm_of(random: &mut Random, n: i64, factors: i64, reach: i64) -> Sheet {
         term(random, n, factors, coef)
     });
     let terms = terms.collect();
-    let most_steps = random.of(&[2, 6, 6, 6, 40, 240]);
+    let most_steps = random.of(&[2, 6, 6, 6, 40, *STEPS.end()]);
     let mut sheet = Sheet {
         steps: random.even(1..=most_steps),
         step: direction(random),

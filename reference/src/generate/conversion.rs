@@ -9,7 +9,9 @@ use crate::conversion::FIRST_STEPS;
 use crate::random::Random;
 use crate::rounding::SCALE;
 use crate::rows;
-use crate::sheet::{LIMIT, STEPS, STORED_STEPS, Sheet, TAIL, read_stored, start, term, text};
+use crate::sheet::{
+    LIMIT, QUANTITIES, STEPS, STORED_STEPS, Sheet, TAIL, read_stored, start, term, text,
+};
 use crate::step::{MOST_RATIO, ratio};
 
 /// A stored sheet, the places lent for the rows of its first part, and what decides on the bytes lent for its
@@ -102,7 +104,7 @@ fn long(random: &mut Random) -> i64 {
 
 /// A long sheet that goes a long way: the ratio of its first step is small.
 fn gentle(random: &mut Random) -> Sheet {
-    let n = random.even(1..=8);
+    let n = random.even(QUANTITIES);
     let reach = random.of(&[1 << 10, 1 << 20, SCALE, 4 * SCALE]);
     gentle_of(random, n, n, reach)
 }
@@ -127,7 +129,8 @@ fn gentle_ratio(random: &mut Random) -> u64 {
 /// The row at which something is to happen: about the first part's last, or any.
 fn turning_row(random: &mut Random, steps: i64) -> usize {
     let any = random.even(1..=steps);
-    let row = random.of(&[239, 239, 239, 240, 240, 241, 241, any]);
+    let (before, last, after) = (FIRST_STEPS - 1, FIRST_STEPS, FIRST_STEPS + 1);
+    let row = random.of(&[before, before, before, last, last, after, after, any]);
     row.min(steps) as usize
 }
 
@@ -150,7 +153,7 @@ fn size(row: &[i64], quantity: usize) -> i64 {
 /// A sheet whose last quantity, which is no term's factor, is moved until its |value| + radius is at the limit after a
 /// row, or one unit beyond it.
 fn at_the_limit(random: &mut Random) -> Sheet {
-    let n = random.even(2..=8);
+    let n = random.even(2..=*QUANTITIES.end());
     let last = n as usize - 1;
     let mut sheet = gentle_of(random, n, n - 1, 1 << 20);
     let sign = random.of(&[-1, 1]);
@@ -179,13 +182,13 @@ fn at_the_limit(random: &mut Random) -> Sheet {
 /// A sheet whose first quantity, the largest, moves away from 0 at each step, until the ratio passes one half after some
 /// row: the square of the last quantity, which is 0 or close to it, has as large a coefficient as passes before that row.
 fn at_the_ratio(random: &mut Random) -> Sheet {
-    let n = random.even(2..=8);
+    let n = random.even(2..=*QUANTITIES.end());
     let direction = direction(random);
     let sign = random.of(&[-1, 1]);
     let largest = random.even(SCALE..=8 * SCALE);
     let rise = random.even(1 << 8..=1 << 16);
     let coef = random.even(SCALE..=8 * SCALE);
-    // About where the ratio is one half, when 240 steps have been taken.
+    // About where the ratio is one half, when the first part's steps have been taken.
     let length = SCALE * (SCALE / 2) / coef * SCALE / (largest + FIRST_STEPS * rise);
     let mut starts = vec![start(0, random.even(0..=3)); n as usize];
     starts[0] = start(sign * largest, random.even(0..=1000));
@@ -247,7 +250,7 @@ fn refused_early(random: &mut Random) -> Sheet {
     }
 }
 
-/// A sheet of up to 240 steps, whose passage may be refused in every way.
+/// A sheet of as many steps as one may have now, whose passage may be refused in every way.
 fn short(random: &mut Random) -> Sheet {
     let mut sheet = match random.below(5) {
         0 | 1 => gentle(random),
@@ -264,7 +267,10 @@ fn short(random: &mut Random) -> Sheet {
 
 /// A sheet with a number of steps at an end of its range, old or new, or one beyond.
 fn with_edge_steps(random: &mut Random) -> Vec<u8> {
-    let steps = random.of(&[0, 1, 239, 240, 241, 399, 400, 401, 401, 401, 402]);
+    let (most, stored) = (*STEPS.end(), *STORED_STEPS.end());
+    let about = [most - 1, most, most + 1, stored - 1, stored];
+    let beyond = [stored + 1, stored + 1, stored + 1, stored + 2];
+    let steps = random.of(&[&[0, 1][..], &about, &beyond].concat());
     let sheet = gentle(random);
     text(&Sheet { steps, ..sheet })
 }

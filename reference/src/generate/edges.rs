@@ -56,7 +56,7 @@ pub fn at_the_limit_from_the_start(random: &mut Random) -> Sheet {
 /// The same before a later step: the last quantity, which is no term's factor, is moved until it
 /// meets the limit after a row.
 pub(super) fn at_the_limit_later(random: &mut Random) -> Sheet {
-    let n = random.even(2..=8);
+    let n = random.even(2..=*QUANTITIES.end());
     let mut sheet = calm_of(random, n, n - 1, 1 << 22);
     let last = n as usize - 1;
     let sign = random.of(&[-1, 1]);

@@ -8,7 +8,7 @@ use reference::like_terms::{alike, gathered};
 use reference::passage::start;
 use reference::random::Random;
 use reference::rows::{self, Parts};
-use reference::sheet::{COEF, Refusal, Sheet, Start, Term, text};
+use reference::sheet::{COEF, MOST_QUANTITIES, Refusal, Sheet, Start, Term, text};
 use reference::step::{Row, State, Steps, advance};
 
 const COUNT: usize = 10_000;
@@ -221,8 +221,8 @@ fn single_step(sheet: &Sheet, row: &[i64]) -> Sheet {
 fn state(row: &[i64]) -> State {
     let Parts { values, radii, .. } = rows::parts(row);
     let mut state = State {
-        values: [0; 8],
-        radii: [0; 8],
+        values: [0; MOST_QUANTITIES],
+        radii: [0; MOST_QUANTITIES],
     };
     state.values[..values.len()].copy_from_slice(values);
     for (place, &radius) in state.radii.iter_mut().zip(radii) {

@@ -7,7 +7,7 @@ use reference::clearance::{Query, is_certain};
 use reference::passage;
 use reference::rounding::SCALE;
 use reference::rows;
-use reference::sheet::{Sheet, read};
+use reference::sheet::{MOST_QUANTITIES, Sheet, read};
 
 /// The rows of a gallery sheet and a query of them.
 struct Gallery {
@@ -26,7 +26,7 @@ impl Gallery {
         let mut rows = vec![0; sheet.places()];
         passage::run(sheet, &mut rows).unwrap();
         let mut query = Query {
-            weights: [0; 8],
+            weights: [0; MOST_QUANTITIES],
             base: base * SCALE,
             need: need * SCALE,
             run: 1,

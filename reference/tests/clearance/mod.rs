@@ -12,6 +12,7 @@ use reference::clearance::{FirstClear, Query, least_clearance_at_end};
 use reference::compare::both_first_clear;
 use reference::generate::clearance::QueryTrial;
 use reference::rounding::SCALE;
+use reference::sheet::MOST_QUANTITIES;
 
 /// The ends of the ranges.
 const MOST_WEIGHT: i64 = 67108864;
@@ -20,7 +21,11 @@ const MOST_VALUE: i64 = 1 << 31;
 
 /// One quantity as it is, against a need: a run of one row.
 const AS_IT_IS: Query = Query {
-    weights: [SCALE, 0, 0, 0, 0, 0, 0, 0],
+    weights: {
+        let mut weights = [0; MOST_QUANTITIES];
+        weights[0] = SCALE;
+        weights
+    },
     base: 0,
     need: 0,
     run: 1,

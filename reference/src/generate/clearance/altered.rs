@@ -3,7 +3,7 @@
 
 use super::asked::any_number;
 use super::{HIGH, LOW, PART_RANGES, QueryTrial, place_of};
-use crate::clearance::{BASE, COUNT, NEED, WEIGHT};
+use crate::clearance::{BASE, COUNT, NEED, RUN, WEIGHT};
 use crate::random::Random;
 use crate::rows;
 use crate::sheet::MOST_QUANTITIES;
@@ -16,23 +16,26 @@ pub(super) fn alter(random: &mut Random, trial: &mut QueryTrial) {
         n, count, query, ..
     } = trial;
     match random.below(20) {
-        0 => *n = random.of(&[0, 9, 9, 10, usize::MAX, 1 << 63, (1 << 32) + 1]),
+        0 => {
+            let beyond = MOST_QUANTITIES + 1;
+            let far = [usize::MAX, 1 << 63, (1 << 32) + 1];
+            *n = random.of(&[&[0, beyond, beyond, beyond + 1][..], &far].concat());
+        }
         1 => {
-            *count = random.of(&[
-                241,
-                241,
-                242,
-                (1 << 32) + 1,
-                usize::MAX,
-                usize::MAX / 33 + 1,
-            ])
+            let beyond = COUNT.end() + 1;
+            let wraps = usize::MAX / rows::width(MOST_QUANTITIES) + 1;
+            let far = [(1 << 32) + 1, usize::MAX, wraps];
+            *count = random.of(&[&[beyond, beyond, beyond + 1][..], &far].concat());
         }
         2 | 3 => shorten(random, trial),
         4 => query.weights[place] = about_an_end(random, WEIGHT),
         5 => query.weights[0] = about_an_end(random, WEIGHT),
         6 => query.base = about_an_end(random, BASE),
         7 => query.need = about_an_end(random, NEED),
-        8 => query.run = random.of(&[0, 0, 240, 241, 241, (1 << 32) + 1, usize::MAX]),
+        8 => {
+            let (most, far) = (*RUN.end(), (1 << 32) + 1);
+            query.run = random.of(&[0, 0, most, most + 1, most + 1, far, usize::MAX]);
+        }
         9..=15 => alter_part(random, trial),
         16 => alter_row(random, trial, |random, _, row| row[0] = any_number(random)),
         17 => alter_row(random, trial, |random, n, row| {

@@ -6,13 +6,14 @@ use super::{HIGH, LOW, PART_RANGES, QueryTrial, place_of};
 use crate::clearance::{BASE, COUNT, NEED, Query, ROW_RADIUS, ROW_VALUE, WEIGHT, least_clearance};
 use crate::random::Random;
 use crate::rounding::SCALE;
+use crate::sheet::{QUANTITIES, STEPS};
 use std::ops::RangeInclusive;
 
 /// Rows that are certain, or not, by as much as is wanted: in stretches about as long as the run, by nothing or by
 /// one part in s of a unit. One quantity makes up for what the others bring: by its low where it has the weight 1, by its
 /// high where it has the weight -1.
 pub(super) fn to_measure(random: &mut Random) -> QueryTrial {
-    let n = random.even(1..=8) as usize;
+    let n = random.even(QUANTITIES) as usize;
     let one = random.below(n);
     let mut weights = random_weights(random, n);
     for weight in &mut weights[..n] {
@@ -21,7 +22,7 @@ pub(super) fn to_measure(random: &mut Random) -> QueryTrial {
     weights[one] = random.of(&[-1, 1]);
     let units = random.even(-32..=32);
     let (base, need) = apart(random, units);
-    let long = random.of(&[10, 100, 240]);
+    let long = random.of(&[10, 100, *STEPS.end()]);
     let run = random.even(1..=long) as usize;
     let run = random.of(&[1, 2, 3, 4, run]);
     let query = Query {
@@ -87,7 +88,7 @@ fn small_row(random: &mut Random, n: usize) -> Vec<i64> {
 
 /// Every number over its whole range.
 pub(super) fn anywhere(random: &mut Random) -> QueryTrial {
-    let n = random.even(1..=8) as usize;
+    let n = random.even(QUANTITIES) as usize;
     let rows = some_rows(random, n, |random, range| random.spread(range));
     let weights = random_weights(random, n);
     let mut trial = asked(random, n, rows, weights);
@@ -103,7 +104,7 @@ pub(super) fn at_the_ends(random: &mut Random) -> QueryTrial {
     fn end(random: &mut Random, range: RangeInclusive<i64>) -> i64 {
         random.of(&[*range.start(), *range.end(), 0])
     }
-    let n = random.even(1..=8) as usize;
+    let n = random.even(QUANTITIES) as usize;
     let rows = some_rows(random, n, end);
     let mut weights = random_weights(random, n);
     for weight in &mut weights[..n] {
