@@ -126,7 +126,7 @@ class Writer:
         described = self.description
         if len(described.quantities) > MOST_QUANTITIES:
             extra = described.quantities[MOST_QUANTITIES].name
-            self.refuse(f"'{extra}' is the ninth quantity, and a sheet has eight at most", "quantity", extra)
+            self.refuse(f"'{extra}' is one quantity too many: a sheet has {MOST_QUANTITIES} at most", "quantity", extra)
         steps, step, tail, tol = self.steps(), self.step(), described.tail, self.tol()
         starts = tuple(self.start(quantity) for quantity in described.quantities)
         self.check_radii(starts, tol)

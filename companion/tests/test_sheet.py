@@ -177,7 +177,7 @@ class Ranges(unittest.TestCase):
     def test_nine_quantities_and_33_terms(self):
         more = "".join(f'[quantity.x{i}]\nstart = 0\ngood_to = 0\nrate = "0"\n' for i in range(8))
         self.assertEqual(
-            refusal(PLAIN.format(**USUAL) + more), (39, "'x7' is the ninth quantity, and a sheet has eight at most")
+            refusal(PLAIN.format(**USUAL) + more), (39, "'x7' is one quantity too many: a sheet has 8 at most")
         )
         line, why = refusal(PLAIN.format(**USUAL | {"rate": "x" + " + x" * 32}))
         self.assertEqual((line, why[:26]), (6, "the rates have 33 products"))

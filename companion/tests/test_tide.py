@@ -155,7 +155,7 @@ class Descriptions(unittest.TestCase):
         self.assertEqual(len(Writer(read(("[quantity.water]", more(2) + "[quantity.water]"))).sheet().starts), 7)
         self.assertEqual(
             refusal(("[quantity.water]", more(3) + "[quantity.water]")),
-            (19 + 3 * 6, "'water' is the ninth quantity, and a sheet has eight at most"),
+            (19 + 3 * 6, "'water' is one quantity too many: a sheet has 8 at most"),
         )
         self.assertEqual(refusal(("[quantity.water]", more(4) + "[quantity.water]"))[0], 19 + 3 * 6)
 
