@@ -122,8 +122,9 @@ def time_heading(clock, left, right):
     """What stands under the axis of time: of a clock, from which day to which, or what its days are counted from."""
     if not clock.is_clock:
         return clock.heading()
+    clock_time = "clock time" + (f" ({clock.time.offset})" if clock.time.offset else "")
     days = list(dict.fromkeys((day_of(left), day_of(right))))
     if clock.time.dated:
         dates = (f"{day_text(clock.time, day)} {date_of(clock.time, day).year}" for day in days)
-        return "clock time, " + " to ".join(dates)
-    return "clock time" if days == [0] else "clock time; days are counted from the one on which it begins"
+        return f"{clock_time}, " + " to ".join(dates)
+    return clock_time if days == [0] else f"{clock_time}; days are counted from the one on which it begins"

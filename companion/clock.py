@@ -52,9 +52,12 @@ class Clock:
         return told if day == 0 else f"{told} {day:+} d"
 
     def window(self, first, last):
-        """From when to when a run of rows answers for its steps, earlier time first: from the row before the first."""
+        """From when to when a run of rows answers for its steps, earlier time first: from the row before the first. Where
+        both are of one date, it is told once."""
         ends = sorted((first - 1, last), key=self.seconds)
-        return self.text(ends[0], ceil), self.text(ends[1], floor)
+        begin, end = self.text(ends[0], ceil), self.text(ends[1], floor)
+        is_one_day = self.time.dated and begin.split()[0] == end.split()[0]
+        return begin, end.split()[1] if is_one_day else end
 
     def heading(self):
         if self.time.offset:

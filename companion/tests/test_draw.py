@@ -289,6 +289,8 @@ class Axes(unittest.TestCase):
         hours[6].append("1 Dec")
         self.assertEqual(found, [(text, 3600 * hour) for hour, text in enumerate(hours, 18)])
         self.assertIn("clock time, 30 Nov 2026 to 1 Dec 2026", labels(self.lines))
+        self.marks("begin = 2026-11-30T18:00:00+01:00\n", 60)
+        self.assertIn("clock time (+01:00), 30 Nov 2026 to 1 Dec 2026", labels(self.lines))
 
     def test_several_days_over_the_end_of_a_year(self):
         found = self.marks("begin = 2027-12-30T09:20:00\n", 240, "20 min")

@@ -59,6 +59,12 @@ class Times(unittest.TestCase):
         told = clock(begin="2026-11-30T23:50:00")
         self.assertEqual([told.text(row) for row in (0, 1)], ["2026-11-30 23:50", "2026-12-01 00:00"])
 
+    def test_a_window_on_one_day_has_its_date_once(self):
+        told = clock(begin="2026-11-30T23:00:00")
+        self.assertEqual(told.window(1, 5), ("2026-11-30 23:00", "23:50"))
+        self.assertEqual(told.window(1, 6), ("2026-11-30 23:00", "2026-12-01 00:00"))
+        self.assertEqual(clock(begin="23:00:00").window(7, 8), ("00:00 +1 d", "00:20 +1 d"))
+
     def test_seconds_and_parts(self):
         self.assertEqual(clock(step='"20 s"').text(2), "08:00:40")
         self.assertEqual(clock(step='"7.5 s"').text(1), "08:00:07.5")
