@@ -25,6 +25,7 @@ KEY = re.compile(r"""(?P<before>\s*(?:[\w"'-]+\s*\.\s*)*)["']?(?P<key>\w+)["']?\
 MOST_PARTS = 100
 PHASES = ("phase", "highest", "lowest")
 FINEST = 40  # Places of a phase that has no end.
+TURNED = Fraction(14143, 10**4)  # The root of 2, rounded up: what both of a tide's quantities are off by, turned into one.
 
 
 @dataclass(frozen=True)
@@ -169,6 +170,8 @@ class Splitter:
         for name in self.tides:
             entry = next(each for each in PHASES if each in self.tables["tide"][name])
             yield ("tide", name, entry), Entry("phase", f'"{degrees_text(self.phase(name, number))} deg"')
+            if self.good_to(name):
+                yield ("tide", name, "good_to"), Entry("good_to", f"{{ units = {self.good_to(name)} }}")
         for quantity, (value, radius) in self.ends(made, number - 1):
             amount = with_unit(shown(Fraction(value, SCALE) * quantity.scale.whole), quantity.scale.unit)
             comment = f"{amount}: row {made.description.time.steps} of part {number - 1}"
@@ -192,8 +195,15 @@ class Splitter:
         """The names of the tides' own quantities."""
         return {word for name in self.tides for word in (name, tides.later(name))}
 
+    def good_to(self, name):
+        """By how many units a tide's two quantities may be off in a part after the first. The tide starts anew from its
+        constants, and what it was off by at the beginning has turned with it."""
+        quantity = next(each for each in self.whole.quantities if each.name == name)
+        given = quantity.good_to - self.tides[name].starts()[0][1]
+        return ceil(given * TURNED * SCALE)
+
     def phase(self, name, number):
-        """A tide's phase when a part begins. The tide starts anew from its constants, as good as it was."""
+        """A tide's phase when a part begins."""
         return self.tides[name].phase - self.tides[name].speed * self.first(number) * self.time.step
 
     def meant(self, number, made, part):
@@ -215,10 +225,9 @@ class Splitter:
         for quantity, (value, radius) in self.ends(made, number - 1):
             yield quantity.name, (Fraction(value, SCALE), Fraction(radius, SCALE))
         for name, tide in self.tides.items():
-            given = {quantity.name: quantity for quantity in self.whole.quantities}[name].good_to - tide.starts()[0][1]
             anew = replace(tide, phase=self.phase(name, number)).starts()
             for word, (start, cut) in zip((name, tides.later(name)), anew):
-                yield word, (start, given + cut)
+                yield word, (start, Fraction(self.good_to(name), SCALE) + cut)
 
 
 def degrees_text(phase):

@@ -200,7 +200,7 @@ class Tides(unittest.TestCase):
                 moon = Fraction(-9, 5) * tide.cosine(speed * (36 * number + row) / 6)
                 for subject, meant in zip(part.subjects[::2], (moon, Fraction(17, 5) + moon)):
                     cell = subject.cells[row - 1]
-                    self.assertLess(abs(cell.value - meant), cell.radius + Fraction(1, 10**6))
+                    self.assertLessEqual(abs(cell.value - meant), cell.radius)
         self.assertLess(made[-1].subjects[2].cells[-1].radius, Fraction(5, 100))
 
     def test_the_phase_takes_the_place_of_the_clocks(self):
@@ -215,9 +215,19 @@ class Tides(unittest.TestCase):
         words = parse(second)["tide"]["moon"]["phase"]
         self.assertEqual(len(words.partition(".")[2]), 40 + len(" deg"))
 
-    def test_good_to_is_kept(self):
-        found = description.read(Splitter(MOON.replace("good_to = 0", "good_to = { units = 5 }"), 36).parts()[1])
-        self.assertEqual(found.quantities[0].good_to, Fraction(5, SCALE) + Fraction(1, 10**9))
+    def test_what_a_tide_is_off_by_turns_with_it(self):
+        """5 units in each of its two quantities are up to 7.07 in one of them, an eighth of a turn later."""
+        text = MOON.replace("good_to = 0", "good_to = { units = 5 }").replace('tolerance = "6 cm"', "tolerance = 1")
+        parts = [description.read(part) for part in Splitter(text, 9).parts()[:9]]
+        self.assertEqual(parts[0].quantities[0].good_to, Fraction(5, SCALE))
+        self.assertEqual(parts[1].quantities[0].good_to, Fraction(8, SCALE) + Fraction(1, 10**9))
+        speed, off = Fraction("28.9841042") * PI / 180, Fraction(5, SCALE)
+        for number, part in enumerate(parts):
+            angle = speed * 9 * number / 6
+            turned = off * (tide.cosine(angle) + tide.cosine(angle - PI / 2))
+            truth = Fraction(-9, 5) * tide.cosine(angle) + turned
+            moon = part.quantities[0]
+            self.assertTrue(abs(moon.start - truth) <= moon.good_to + Fraction(1, 10**40), number)
 
 
 class Command(Folder):
