@@ -169,6 +169,8 @@ class Splitter:
         for name in self.tides:
             entry = next(each for each in PHASES if each in self.tables["tide"][name])
             yield ("tide", name, entry), Entry("phase", f'"{degrees_text(self.phase(name, number))} deg"')
+            if self.given(name):
+                yield ("tide", name, "good_to"), Entry("good_to", f"{{ units = {self.turned(name, number)} }}")
         for quantity, (value, radius) in self.ends(made, number - 1):
             amount = with_unit(shown(Fraction(value, SCALE) * quantity.scale.whole), quantity.scale.unit)
             comment = f"{amount}: row {made.description.time.steps} of part {number - 1}"
@@ -193,8 +195,24 @@ class Splitter:
         return {word for name in self.tides for word in (name, tides.later(name))}
 
     def phase(self, name, number):
-        """A tide's phase when a part begins. The tide starts anew from its constants, as good as it was."""
-        return self.tides[name].phase - self.tides[name].speed * self.first(number) * self.time.step
+        """A tide's phase when a part begins: it starts anew from its constants."""
+        return self.tides[name].phase - self.angle(name, number)
+
+    def angle(self, name, number):
+        """By how much a tide has turned when a part begins."""
+        return self.tides[name].speed * self.first(number) * self.time.step
+
+    def given(self, name):
+        """How good a tide is said to be, in wholes."""
+        quantity = next(each for each in self.whole.quantities if each.name == name)
+        return quantity.good_to - self.tides[name].starts()[0][1]
+
+    def turned(self, name, number):
+        """How good a tide is when a part begins, in units. What it and the later one are off by turns with them, and half
+        way to a quarter each may be off by both."""
+        angle = self.angle(name, number)
+        both = abs(tides.cosine(angle)) + abs(tides.cosine(angle - tides.QUARTER)) + tides.COSINE_OFF_BY
+        return ceil(self.given(name) * both * SCALE)
 
     def meant(self, number, made, part):
         """What a part means: the long passage's description but for its title, its times and its starts."""
@@ -215,7 +233,7 @@ class Splitter:
         for quantity, (value, radius) in self.ends(made, number - 1):
             yield quantity.name, (Fraction(value, SCALE), Fraction(radius, SCALE))
         for name, tide in self.tides.items():
-            given = {quantity.name: quantity for quantity in self.whole.quantities}[name].good_to - tide.starts()[0][1]
+            given = Fraction(self.turned(name, number), SCALE)
             anew = replace(tide, phase=self.phase(name, number)).starts()
             for word, (start, cut) in zip((name, tides.later(name)), anew):
                 yield word, (start, given + cut)

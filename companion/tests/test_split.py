@@ -215,9 +215,25 @@ class Tides(unittest.TestCase):
         words = parse(second)["tide"]["moon"]["phase"]
         self.assertEqual(len(words.partition(".")[2]), 40 + len(" deg"))
 
-    def test_good_to_is_kept(self):
+    def test_how_good_it_is_turns_with_the_tide(self):
+        """Six hours of M2 are 173.9 degrees, of which cosine and sine are 0.9943 and 0.1062: 5 units become 5.503."""
         found = description.read(Splitter(MOON.replace("good_to = 0", "good_to = { units = 5 }"), 36).parts()[1])
-        self.assertEqual(found.quantities[0].good_to, Fraction(5, SCALE) + Fraction(1, 10**9))
+        for quantity in found.quantities[:2]:
+            self.assertEqual(quantity.good_to, Fraction(6, SCALE) + Fraction(1, 10**9))
+        self.assertEqual(parse(Splitter(MOON, 36).parts()[1])["tide"]["moon"]["good_to"], 0)
+
+    def test_every_tide_that_was_meant_lies_in_every_part(self):
+        """One that is off by all that it may be, and so is the same a quarter of its period later."""
+        text = MOON.replace("good_to = 0", 'good_to = "3 cm"').replace('"6 cm"', "1").replace('"2 d"', '"5 h"')
+        speed, off = Fraction("28.9841042") * PI / 180, Fraction(3, 100)
+        for number, part in enumerate(Splitter(text, 10).parts()):
+            made = plan(description.read(part))
+            for row, cell in enumerate((made.subjects[0].start, *made.subjects[0].cells)):
+                angle = speed * (10 * number + row) / 6
+                cosine, sine = tide.cosine(angle), tide.cosine(angle - PI / 2)
+                for tidal, later in ((off, off), (off, -off), (-off, off), (-off, -off)):
+                    meant = (Fraction(-9, 5) + tidal) * cosine + later * sine
+                    self.assertTrue(cell.least <= meant <= cell.most and cell.low <= meant <= cell.high, (number, row))
 
 
 class Command(Folder):
