@@ -339,13 +339,17 @@ class Reader:
             if phase is None or abs(phase) > 2 * PI:
                 self.refuse("'phase' is an angle from -360 to 360 deg, like '180 deg'", *path, entry)
             return phase
-        phase = speed * self.since_begin(table[entry], time, (*path, entry))
+        since, dated = self.since_begin(table[entry], time, (*path, entry))
+        if not dated:
+            self.check_day(since, speed, time, (*path, entry))
+        phase = speed * since
         if abs(phase) > tides.MOST_ANGLE:
             self.refuse(f"'{entry}' is too far from the beginning of the passage", *path, entry)
         return phase if entry == "highest" else phase + PI
 
     def since_begin(self, found, time, path):
-        """How long after the beginning a time of the clock is, in the unit of time."""
+        """How long after the beginning a time of the clock is, in the unit of time, and whether its day is given: else it is
+        the one on which the passage begins."""
         moment, dated = self.moment(found, path)
         if moment.tzinfo is not None:
             self.refuse(f"'{path[-1]}' is told by the same clock as 'begin', and has no offset of its own", *path)
@@ -356,7 +360,20 @@ class Reader:
         if not dated:
             moment = datetime.datetime.combine(time.begin.date(), moment.time())
         passed = (moment - time.begin) // datetime.timedelta(microseconds=1)
-        return Fraction(passed, 10**6) / unit(time.scale.unit).size
+        return Fraction(passed, 10**6) / unit(time.scale.unit).size, dated
+
+    def check_day(self, since, speed, time, path):
+        """Refuses a time without a day that lies outside the passage and comes within it a day later or before: a tide
+        that is highest at 03:00 of a night that begins at 22:00."""
+        day = unit("d").size / unit(time.scale.unit).size
+        first, last = sorted((0, time.step * time.steps))
+        here, *beside = (first <= since + days * day <= last for days in (0, 1, -1))
+        if not here and any(beside) and (speed * day / (2 * PI)).denominator != 1:
+            self.refuse(
+                f"'{path[-1]}' without a day is a time of the day on which the passage begins, and there it lies outside the "
+                "passage, which comes to that time of another day: write a day for it and for 'begin', as 2026-11-17T08:00",
+                *path,
+            )
 
     def tide_quantities(self, found):
         """The two quantities of each tide. Where a sheet cannot take one, the lines to blame are the tide's."""
