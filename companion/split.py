@@ -16,7 +16,7 @@ import show
 import tide as tides
 import valid
 from clock import Clock
-from entries import Lines, Refused, parse
+from entries import Lines, Refused, mended, parse
 from plan import plan
 from sheet import LIMIT, MOST_STEPS
 from units import PI, SCALE, decimal, shown, unit, with_unit
@@ -81,7 +81,7 @@ class Splitter:
     """Splits one description into parts of so many rows."""
 
     def __init__(self, text, rows=MOST_STEPS):
-        self.text, self.rows = text, rows
+        self.text, self.rows = mended(text), rows
         self.whole = descriptions.read(text)
         self.time = self.whole.time
         self.count = -(-self.time.steps // rows)

@@ -323,6 +323,9 @@ class Reading(unittest.TestCase):
         self.assertEqual(mended(text).count('"20:30"'), 1)
         inside = edited((rate, "rate = '''\nbegin = 08:00\n'''"), ("begin = 08:00:00", "begin = 20:30"))
         self.assertIn("\nbegin = 08:00\n", mended(inside))
+        for entry in ("highest = 2:10", "lowest = 2026-11-18T02:10 # a day later"):
+            self.assertEqual(mended(entry), entry.replace("2:10", '2:10"').replace("= ", '= "'))
+        self.assertEqual(mended("start = 2:10"), "start = 2:10")
         self.assertEqual(mended(TIDE), TIDE)
 
     def test_signs_as_they_are_printed(self):

@@ -209,6 +209,10 @@ class Tides(unittest.TestCase):
         self.assertEqual(parse(second)["tide"]["moon"]["phase"], f"{float(degrees):.7f} deg")
         self.assertNotIn("almanac", second)
 
+    def test_times_as_people_write_them(self):
+        bare = MOON.replace("begin = 08:00:00", "begin = 8:00").replace("lowest = 08:00:00", "lowest = 08:00")
+        self.assertEqual(Splitter(bare, 36).parts()[1:], Splitter(MOON, 36).parts()[1:])
+
     def test_a_phase_without_an_end(self):
         text = MOON.replace('"28.9841042 deg/h"', '"29 deg/d"').replace('"10 min"', '"7 min"').replace('"2 d"', '"14 h"')
         second = Splitter(text, 71).parts()[1]
