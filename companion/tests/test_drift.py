@@ -9,6 +9,7 @@ from math import floor
 from unittest import mock
 
 import description
+import draw
 import drift
 import show
 from drift import FINE, Share, after_step, drifts, grown
@@ -235,6 +236,15 @@ class Unbounded(unittest.TestCase):
         words = "rows from 13 on answer for the sheet's equations alone, and nothing in them is called certain"
         self.assertTrue(any(words in line for line in show.remarks(self.plan)))
         self.assertTrue(any(words in line for line in show.drift_words(self.plan)))
+
+    def test_a_picture_says_it_too(self):
+        self.assertIn(*show.unbounded_words(self.plan), draw.Picture(self.plan, None, self.plan.subjects[4]).notes())
+
+    def test_back_in_time(self):
+        text = TIDE.replace('step = "10 min"', 'step = "-10 min"')
+        with mock.patch("plan.drifts", lambda *given: drifts(*given)[:2]):
+            [words] = show.unbounded_words(plan(description.read(text)))
+        self.assertTrue(words.startswith("before 07:40, what the sheet's rounded"), words)
 
     def test_the_cells(self):
         mine, whole = self.plan.subjects[4].cells, self.known.subjects[4].cells
