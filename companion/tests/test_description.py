@@ -129,6 +129,10 @@ REFUSALS = [
     ([('rate = "m2 * fall"', 'rate = "0,5 * fall"')], 19, "0,5 has a comma: write 0.5"),
     ([('rate = "m2 * fall"', 'rate = "m2 \N{EN DASH} fall"')], 19, "is a dash and no minus"),
     ([('rate = "m2 * fall"', 'rate = "fall / 2"')], 19, "in the place of dividing, multiply"),
+    ([('rate = "m2 * fall"', 'rate = "2 * m2 / 2"')], 19, "in the place of dividing, multiply"),
+    ([('rate = "m2 * fall"', 'rate = "0.1 m/h"')], 19, "a number in a rate has no unit behind it"),
+    ([('rate = "m2 * fall"', 'rate = "fall - 10cm"')], 19, "a number in a rate has no unit behind it"),
+    ([('rate = "m2 * fall"', 'rate = "2 fall"')], 19, "before 'fall' a sign is missing"),
 ]
 
 WEIGHTS = "weights = { water = 1, rise = -0.5 }"
