@@ -13,7 +13,7 @@ import slips
 import tide as tides
 import valid
 from entries import Lines, Refused, mended, parse
-from units import MOST_LETTERS, OFF_BY, PI, SCALE, UNITS, UNSIGNED, Unit, comma_words, meant, measure, unit
+from units import KNOWN, MOST_LETTERS, OFF_BY, PI, SCALE, UNITS, UNSIGNED, Unit, comma_words, meant, measure, unit
 
 ENTRIES = {
     (): {"title", "time", "accuracy", "constants", "tide", "quantity", "clearance"},
@@ -164,10 +164,12 @@ class Reader:
         if text == scale.unit:
             return number
         given, wanted = unit(text), unit(scale.unit)
+        if given is None and path[-1] == "start" and OFF_BY.search(text):
+            return self.refuse("'start' is the reading alone: how good it is stands in 'good_to'", *path)
         if given is None:
             return self.refuse(
                 f"'{path[-1]}': '{text}' is no unit that is known here; these are: {', '.join(UNITS)}, and m/s and "
-                "the like",
+                f"the like{meant(text, KNOWN) if len(text) > 1 else ''}",
                 *path,
             )
         if wanted is None or not given.is_like(wanted):
@@ -284,7 +286,7 @@ class Reader:
         """A plain number, or an angle for a time, as '28.9841042 deg/h', which becomes radians for the unit of time."""
         path = ("constants", name)
         if not NAME.fullmatch(name):
-            self.refuse(f"'{name}' is no name: a name has letters, digits and _", *path)
+            self.refuse(f"'{name}' is no name: a name has letters from a to z, digits and _", *path)
         if not isinstance(found, str):
             return self.number(found, path)
         if comma_words(found):
@@ -301,7 +303,7 @@ class Reader:
         taken = {*constants, "clearance"}
         for name in self.table("tide"):
             if not NAME.fullmatch(name):
-                self.refuse(f"'{name}' is no name: a name has letters, digits and _", "tide", name)
+                self.refuse(f"'{name}' is no name: a name has letters from a to z, digits and _", "tide", name)
             for word in (name, tides.later(name), tides.rise(name)):
                 if word in taken:
                     self.refuse(f"'{word}' has a meaning already", "tide", name)
@@ -312,7 +314,7 @@ class Reader:
         path = ("tide", name)
         table = self.table(*path)
         for entry in table.keys() - TIDE_ENTRIES:
-            self.refuse(f"'{entry}' is no entry of a tide", *path, entry)
+            self.refuse(f"'{entry}' is no entry of a tide{meant(entry, TIDE_ENTRIES)}", *path, entry)
         for entry in ("amplitude", "speed"):
             if entry not in table:
                 self.refuse(f"[tide.{name}] has no '{entry}'", *path)
@@ -321,6 +323,8 @@ class Reader:
         if amplitude <= 0:
             self.refuse("'amplitude' is more than 0", *path, "amplitude")
         speed = angle_for_time(table["speed"], time)
+        if isinstance(table["speed"], str) and comma_words(table["speed"]):
+            self.refuse(f"'speed': {comma_words(table['speed'])}", *path, "speed")
         if speed is None or speed <= 0:
             self.refuse("'speed' is an angle for a time, more than 0, like '28.9841042 deg/h'", *path, "speed")
         return tides.Tide(name, amplitude / scale.whole, speed, self.phase(table, path, speed, time))
@@ -419,7 +423,7 @@ class Reader:
         rises = {tides.rise(name): (tide.speed, (tides.later(name),)) for name, tide in found.items()}
         for name in tables:
             if not NAME.fullmatch(name):
-                self.refuse(f"'{name}' is no name: a name has letters, digits and _", "quantity", name)
+                self.refuse(f"'{name}' is no name: a name has letters from a to z, digits and _", "quantity", name)
             if name in constants or name in names or name in rises or name == "clearance":
                 self.refuse(f"'{name}' has a meaning already", "quantity", name)
         return tuple(self.quantity(name, constants, (*names, *tables), rises) for name in tables)
@@ -508,8 +512,9 @@ class Reader:
         weights = table.get("weights")
         if not isinstance(weights, dict) or not weights:
             self.refuse("[clearance] has 'weights', as { water = 1 }", "clearance", "weights")
-        for name in weights.keys() - {quantity.name for quantity in quantities}:
-            self.refuse(f"'{name}' is no quantity of this description", "clearance", "weights", name)
+        names = {quantity.name for quantity in quantities}
+        for name in weights.keys() - names:
+            self.refuse(f"'{name}' is no quantity of this description{meant(name, names)}", "clearance", "weights", name)
         for quantity in quantities:
             given, wanted = unit(quantity.scale.unit), unit(scale.unit)
             if quantity.name in weights and given and wanted and given.is_like(wanted) and given.size != wanted.size:

@@ -139,6 +139,8 @@ def sign_words(bare):
 def heading_words(bare):
     if bare.startswith("[") and not re.fullmatch(r"\[[^\[\]=]*\]", bare):
         return "a heading stands between [ and ], with nothing behind it"
+    if bare.startswith("[") and not bare.isascii():
+        return "a name has letters from a to z, digits and _"
     return "between [ and ] the name is missing" if re.fullmatch(r"\[\s*\]", bare) else None
 
 
@@ -155,6 +157,8 @@ def entry_words(bare, line):
         return 'a quote is missing: a text stands between " and "'
     if name in TIMES:
         return f"'{name}' is a time, as 20:30, or a day and a time, as 2026-11-17T20:30"
+    if CLOCK.fullmatch(value):
+        return f"{value} is a time, and '{name}' is none: times are {', '.join(TIMES[:-1])} and {TIMES[-1]}"
     if re.fullmatch(r"[+-]?\.\d+", value):
         return f"{value} has no digit before the point: write {value.replace('.', '0.')}"
     if re.fullmatch(r"[+-]?\d+\.", value):

@@ -188,6 +188,8 @@ class Descriptions(unittest.TestCase):
             ([("28.9841042 deg/h", "-28 deg/h")], 15, "'speed' is an angle for a time"),
             ([('"28.9841042 deg/h"', "28.9841042")], 15, "'speed' is an angle for a time"),
             ([("28.9841042 deg/h", "2000 deg/h")], 15, "moon, the rate's 'speed * moon_later'"),
+            ([("28.9841042 deg/h", "28,9841042 deg/h")], 15, "28,9841042 has a comma: write 28.9841042"),
+            ([('phase = "180 deg"', "hightest = 08:00:00")], 16, "'hightest' is no entry of a tide: is 'highest' meant?"),
             ([('"180 deg"', "180")], 16, "'phase' is an angle from -360 to 360 deg"),
             ([('"180 deg"', '"400 deg"')], 16, "'phase' is an angle from -360 to 360 deg"),
             ([('"180 deg"', '"180 m"')], 16, "'phase' is an angle from -360 to 360 deg"),
