@@ -119,12 +119,13 @@ def date_of(time, day):
 
 
 def time_heading(clock, left, right):
-    """What stands under the axis of time: of a clock, from which day to which, or what its days are counted from."""
+    """What stands under the axis of time: of a clock, its offset, and from which day to which, or what its days are
+    counted from."""
     if not clock.is_clock:
         return clock.heading()
-    clock_time = "clock time" + (f" ({clock.time.offset})" if clock.time.offset else "")
+    told = f"clock time ({clock.time.offset})" if clock.time.offset else "clock time"
     days = list(dict.fromkeys((day_of(left), day_of(right))))
     if clock.time.dated:
         dates = (f"{day_text(clock.time, day)} {date_of(clock.time, day).year}" for day in days)
-        return f"{clock_time}, " + " to ".join(dates)
-    return clock_time if days == [0] else f"{clock_time}; days are counted from the one on which it begins"
+        return f"{told}, " + " to ".join(dates)
+    return told if days == [0] else f"{told}; days are counted from the one on which it begins"

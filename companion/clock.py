@@ -8,7 +8,7 @@ from math import ceil, floor
 from units import decimal, near, unit
 
 SECOND = unit("s")
-FINEST = 3  # Places behind the second that are ever shown.
+FINEST = 3  # Places behind the second that are shown at most, but for steps of less than ten of the last.
 
 
 class Clock:
@@ -18,10 +18,18 @@ class Clock:
         self.time = time
         self.is_clock = time.begin is not None
         instants = [self.seconds(row) for row in range(time.steps + 1)]
+        finest = self.finest()
         self.digits = next(
-            (digits for digits in range(FINEST) if all(is_whole(s * 10**digits) for s in instants)), FINEST
+            (digits for digits in range(finest) if all(is_whole(s * 10**digits) for s in instants)), finest
         )
         self.in_minutes = self.is_clock and all(is_whole(instant / 60) for instant in instants)
+
+    def finest(self):
+        """How many places are shown at most: so many that every window begins before it ends."""
+        step, places = abs(self.seconds(1) - self.seconds(0)), FINEST
+        while step * 10**places < 10:
+            places += 1
+        return places
 
     def seconds(self, row):
         """A row's time: seconds since midnight of the first day, or in the unit of time from the start."""
@@ -36,7 +44,7 @@ class Clock:
     def text(self, row, rounded=near):
         """A row's time. A window is told with its beginning rounded up and its end rounded down."""
         if not self.is_clock:
-            return decimal(self.seconds(row), FINEST + 3 if self.digits == FINEST else self.digits, rounded)
+            return decimal(self.seconds(row), self.digits + 3 if self.digits >= FINEST else self.digits, rounded)
         parts = rounded(self.seconds(row) * 10**self.digits)
         day, within = divmod(parts, 86400 * 10**self.digits)
         seconds, part = divmod(within, 10**self.digits)

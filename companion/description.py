@@ -13,7 +13,7 @@ import slips
 import tide as tides
 import valid
 from entries import Lines, Refused, mended, parse
-from units import MOST_LETTERS, OFF_BY, PI, SCALE, UNITS, UNSIGNED, Unit, comma_words, meant, measure, unit
+from units import KNOWN, MOST_LETTERS, OFF_BY, PI, SCALE, UNITS, UNSIGNED, Unit, comma_words, meant, measure, unit
 
 ENTRIES = {
     (): {"title", "time", "accuracy", "constants", "tide", "quantity", "clearance"},
@@ -164,10 +164,12 @@ class Reader:
         if text == scale.unit:
             return number
         given, wanted = unit(text), unit(scale.unit)
+        if given is None and path[-1] == "start" and OFF_BY.search(text):
+            return self.refuse("'start' is the reading alone: how good it is stands in 'good_to'", *path)
         if given is None:
             return self.refuse(
                 f"'{path[-1]}': '{text}' is no unit that is known here; these are: {', '.join(UNITS)}, and m/s and "
-                "the like",
+                f"the like{meant(text, KNOWN) if len(text) > 1 else ''}",
                 *path,
             )
         if wanted is None or not given.is_like(wanted):
@@ -284,7 +286,7 @@ class Reader:
         """A plain number, or an angle for a time, as '28.9841042 deg/h', which becomes radians for the unit of time."""
         path = ("constants", name)
         if not NAME.fullmatch(name):
-            self.refuse(f"'{name}' is no name: a name has letters, digits and _", *path)
+            self.refuse(f"'{name}' is no name: a name has letters from a to z, digits and _", *path)
         if not isinstance(found, str):
             return self.number(found, path)
         if comma_words(found):
@@ -301,7 +303,7 @@ class Reader:
         taken = {*constants, "clearance"}
         for name in self.table("tide"):
             if not NAME.fullmatch(name):
-                self.refuse(f"'{name}' is no name: a name has letters, digits and _", "tide", name)
+                self.refuse(f"'{name}' is no name: a name has letters from a to z, digits and _", "tide", name)
             for word in (name, tides.later(name), tides.rise(name)):
                 if word in taken:
                     self.refuse(f"'{word}' has a meaning already", "tide", name)
@@ -312,7 +314,7 @@ class Reader:
         path = ("tide", name)
         table = self.table(*path)
         for entry in table.keys() - TIDE_ENTRIES:
-            self.refuse(f"'{entry}' is no entry of a tide", *path, entry)
+            self.refuse(f"'{entry}' is no entry of a tide{meant(entry, TIDE_ENTRIES)}", *path, entry)
         for entry in ("amplitude", "speed"):
             if entry not in table:
                 self.refuse(f"[tide.{name}] has no '{entry}'", *path)
@@ -321,6 +323,8 @@ class Reader:
         if amplitude <= 0:
             self.refuse("'amplitude' is more than 0", *path, "amplitude")
         speed = angle_for_time(table["speed"], time)
+        if isinstance(table["speed"], str) and comma_words(table["speed"]):
+            self.refuse(f"'speed': {comma_words(table['speed'])}", *path, "speed")
         if speed is None or speed <= 0:
             self.refuse("'speed' is an angle for a time, more than 0, like '28.9841042 deg/h'", *path, "speed")
         return tides.Tide(name, amplitude / scale.whole, speed, self.phase(table, path, speed, time))
@@ -339,13 +343,17 @@ class Reader:
             if phase is None or abs(phase) > 2 * PI:
                 self.refuse("'phase' is an angle from -360 to 360 deg, like '180 deg'", *path, entry)
             return phase
-        phase = speed * self.since_begin(table[entry], time, (*path, entry))
+        since, dated = self.since_begin(table[entry], time, (*path, entry))
+        if not dated:
+            self.check_day(since, speed, time, (*path, entry))
+        phase = speed * since
         if abs(phase) > tides.MOST_ANGLE:
             self.refuse(f"'{entry}' is too far from the beginning of the passage", *path, entry)
         return phase if entry == "highest" else phase + PI
 
     def since_begin(self, found, time, path):
-        """How long after the beginning a time of the clock is, in the unit of time."""
+        """How long after the beginning a time of the clock is, in the unit of time, and whether its day is given: else it is
+        the one on which the passage begins."""
         moment, dated = self.moment(found, path)
         if moment.tzinfo is not None:
             self.refuse(f"'{path[-1]}' is told by the same clock as 'begin', and has no offset of its own", *path)
@@ -356,7 +364,20 @@ class Reader:
         if not dated:
             moment = datetime.datetime.combine(time.begin.date(), moment.time())
         passed = (moment - time.begin) // datetime.timedelta(microseconds=1)
-        return Fraction(passed, 10**6) / unit(time.scale.unit).size
+        return Fraction(passed, 10**6) / unit(time.scale.unit).size, dated
+
+    def check_day(self, since, speed, time, path):
+        """Refuses a time without a day that lies outside the passage and comes within it a day later or before: a tide
+        that is highest at 03:00 of a night that begins at 22:00."""
+        day = unit("d").size / unit(time.scale.unit).size
+        first, last = sorted((0, time.step * time.steps))
+        here, *beside = (first <= since + days * day <= last for days in (0, 1, -1))
+        if not here and any(beside) and (speed * day / (2 * PI)).denominator != 1:
+            self.refuse(
+                f"'{path[-1]}' without a day is a time of the day on which the passage begins, and there it lies outside the "
+                "passage, which comes to that time of another day: write a day for it and for 'begin', as 2026-11-17T08:00",
+                *path,
+            )
 
     def tide_quantities(self, found):
         """The two quantities of each tide. Where a sheet cannot take one, the lines to blame are the tide's."""
@@ -402,7 +423,7 @@ class Reader:
         rises = {tides.rise(name): (tide.speed, (tides.later(name),)) for name, tide in found.items()}
         for name in tables:
             if not NAME.fullmatch(name):
-                self.refuse(f"'{name}' is no name: a name has letters, digits and _", "quantity", name)
+                self.refuse(f"'{name}' is no name: a name has letters from a to z, digits and _", "quantity", name)
             if name in constants or name in names or name in rises or name == "clearance":
                 self.refuse(f"'{name}' has a meaning already", "quantity", name)
         return tuple(self.quantity(name, constants, (*names, *tables), rises) for name in tables)
@@ -491,8 +512,9 @@ class Reader:
         weights = table.get("weights")
         if not isinstance(weights, dict) or not weights:
             self.refuse("[clearance] has 'weights', as { water = 1 }", "clearance", "weights")
-        for name in weights.keys() - {quantity.name for quantity in quantities}:
-            self.refuse(f"'{name}' is no quantity of this description", "clearance", "weights", name)
+        names = {quantity.name for quantity in quantities}
+        for name in weights.keys() - names:
+            self.refuse(f"'{name}' is no quantity of this description{meant(name, names)}", "clearance", "weights", name)
         for quantity in quantities:
             given, wanted = unit(quantity.scale.unit), unit(scale.unit)
             if quantity.name in weights and given and wanted and given.is_like(wanted) and given.size != wanted.size:

@@ -5,7 +5,7 @@ import re
 from dataclasses import dataclass
 from fractions import Fraction
 
-from units import MINUS, MOST_LETTERS, UNSIGNED, comma_words, meant
+from units import MINUS, MOST_LETTERS, UNSIGNED, comma_words, meant, unit
 
 # Signs as they are printed, and what they are in a rate.
 ALIKE = {MINUS: "-", "\N{MULTIPLICATION SIGN}": "*", "\N{MIDDLE DOT}": "*", "\N{DOT OPERATOR}": "*"}
@@ -16,6 +16,8 @@ TOKEN = re.compile(
     rf"|(?P<raised>[{''.join(RAISED)}]))",
     re.ASCII,
 )
+MEASURED = re.compile(r"(?<![\w.])[\d.]+\s*([A-Za-z]+)\s*$", re.ASCII)
+NO_UNITS = "a number in a rate has no unit behind it: it is in the description's own, as 0.1 for 0.1 m in each h"
 MOST_FACTORS = 2
 POWERS = "123456789"
 MOST_BITS = 4000
@@ -61,9 +63,17 @@ def odd_sign(text, place):
         return comma_words(text[before.start() :])
     if sign in "\N{EN DASH}\N{EM DASH}":
         return f"'{sign}' is a dash and no minus: write a plain -"
+    if sign == "/" and is_measured(text[:place]):
+        return NO_UNITS
     if sign in "/\N{DIVISION SIGN}":
         return f"'{sign}' has no place in a rate: in the place of dividing, multiply, as 0.5 * rise for rise / 2"
     return f"'{sign}' has no place in a rate: it is a sum of products, as in 2 * m2 * rise - 0.5 * speed^2"
+
+
+def is_measured(text):
+    """Whether a text ends with a number and a unit."""
+    found = MEASURED.search(text)
+    return found is not None and unit(found.group(1)) is not None
 
 
 class Reader:
@@ -87,6 +97,9 @@ class Reader:
         while self.next_is("+", "-"):
             found.append(self.product())
         kind, word, place = self.take()
+        known = {*self.constants, *self.quantities, *self.rises}
+        if kind == "name" and word not in known and is_measured(self.text[: place + len(word)]):
+            raise Unreadable(place, NO_UNITS)
         if kind != "end":
             raise Unreadable(place, f"before '{word}' a sign is missing")
         if len(found) == 1 and not found[0].factors and found[0].coefficient == 0:

@@ -87,8 +87,9 @@ def unbounded_words(plan):
     if known == len(plan.answer.rows):
         return []
     begin = plan.clock.text(known)
+    when = f"from {begin} on" if plan.description.time.step > 0 else f"before {begin}"
     return [
-        f"from {begin} on, what {ROUNDED} can do is not bounded: rows from {known + 1} on answer for the sheet's equations "
+        f"{when}, what {ROUNDED} can do is not bounded: rows from {known + 1} on answer for the sheet's equations "
         "alone, and nothing in them is called certain"
     ]
 

@@ -15,10 +15,11 @@ QUOTES = re.compile("[\u2018-\u201f\u00ab\u00bb\u2032\u2033]")
 DASHES = re.compile("[\u2010-\u2015]")
 CLOCK = re.compile(
     r"(?P<day>\d{4}-\d\d-\d\d[T ])?(?P<hour>[01]?\d|2[0-3]):(?P<rest>[0-5]\d(?::[0-5]\d(?:\.\d{1,6})?)?)"
-    r" ?(?P<offset>Z|[+-](?:[01]\d|2[0-3]):[0-5]\d)?",
+    r"(?: ?(?P<offset>Z|[+-](?:[01]\d|2[0-3]):[0-5]\d))?",
     re.ASCII,
 )
-BEGIN = re.compile(rf"(\s*begin\s*=\s*)({CLOCK.pattern})(\s*(?:#.*)?)", re.ASCII)
+TIMES = ("begin", "highest", "lowest")
+BARE_TIME = re.compile(rf"(\s*(?:{'|'.join(TIMES)})\s*=\s*)({CLOCK.pattern})(\s*(?:#.*)?)", re.ASCII)
 SHEET = re.compile(r"n=\d+\s+steps=\d+\s")
 ANSWER = re.compile(r"row=1\s+degree=\d+\s|result=\d+\s+at=\d+\s*\Z")
 DESCRIPTION = re.compile(r"^[ \t]*\[(?:time|quantity\b.*|clearance)\]", re.MULTILINE)
@@ -58,8 +59,9 @@ def no_text(content):
 
 
 def mended(line):
-    """A line 'begin = 20:30' with its time between quotes, as TOML wants it; None for any other."""
-    found = BEGIN.fullmatch(line)
+    """A line 'begin = 20:30', or 'highest' or 'lowest', with its time between quotes, as TOML wants it; None for any
+    other."""
+    found = BARE_TIME.fullmatch(line)
     return f'{found.group(1)}"{found.group(2)}"{found.group(len(found.groups()))}' if found else None
 
 
@@ -137,6 +139,8 @@ def sign_words(bare):
 def heading_words(bare):
     if bare.startswith("[") and not re.fullmatch(r"\[[^\[\]=]*\]", bare):
         return "a heading stands between [ and ], with nothing behind it"
+    if bare.startswith("[") and not bare.isascii():
+        return "a name has letters from a to z, digits and _"
     return "between [ and ] the name is missing" if re.fullmatch(r"\[\s*\]", bare) else None
 
 
@@ -151,8 +155,10 @@ def entry_words(bare, line):
         return f"behind '{name} =' a number or a text is missing"
     if '"' in value.replace('""', "") or "'" in value:
         return 'a quote is missing: a text stands between " and "'
-    if name == "begin":
-        return "'begin' is a time, as 20:30, or a day and a time, as 2026-11-17T20:30"
+    if name in TIMES:
+        return f"'{name}' is a time, as 20:30, or a day and a time, as 2026-11-17T20:30"
+    if CLOCK.fullmatch(value):
+        return f"{value} is a time, and '{name}' is none: times are {', '.join(TIMES[:-1])} and {TIMES[-1]}"
     if re.fullmatch(r"[+-]?\.\d+", value):
         return f"{value} has no digit before the point: write {value.replace('.', '0.')}"
     if re.fullmatch(r"[+-]?\d+\.", value):

@@ -16,7 +16,7 @@ import show
 import tide as tides
 import valid
 from clock import Clock
-from entries import Lines, Refused, parse
+from entries import Lines, Refused, mended, parse
 from plan import plan
 from sheet import LIMIT, MOST_STEPS
 from units import PI, SCALE, decimal, shown, unit, with_unit
@@ -25,7 +25,6 @@ KEY = re.compile(r"""(?P<before>\s*(?:[\w"'-]+\s*\.\s*)*)["']?(?P<key>\w+)["']?\
 MOST_PARTS = 100
 PHASES = ("phase", "highest", "lowest")
 FINEST = 40  # Places of a phase that has no end.
-TURNED = Fraction(14143, 10**4)  # The root of 2, rounded up: what both of a tide's quantities are off by, turned into one.
 
 
 @dataclass(frozen=True)
@@ -82,7 +81,7 @@ class Splitter:
     """Splits one description into parts of so many rows."""
 
     def __init__(self, text, rows=MOST_STEPS):
-        self.text, self.rows = text, rows
+        self.text, self.rows = mended(text), rows
         self.whole = descriptions.read(text)
         self.time = self.whole.time
         self.count = -(-self.time.steps // rows)
@@ -170,8 +169,8 @@ class Splitter:
         for name in self.tides:
             entry = next(each for each in PHASES if each in self.tables["tide"][name])
             yield ("tide", name, entry), Entry("phase", f'"{degrees_text(self.phase(name, number))} deg"')
-            if self.good_to(name):
-                yield ("tide", name, "good_to"), Entry("good_to", f"{{ units = {self.good_to(name)} }}")
+            if self.given(name):
+                yield ("tide", name, "good_to"), Entry("good_to", f"{{ units = {self.turned(name, number)} }}")
         for quantity, (value, radius) in self.ends(made, number - 1):
             amount = with_unit(shown(Fraction(value, SCALE) * quantity.scale.whole), quantity.scale.unit)
             comment = f"{amount}: row {made.description.time.steps} of part {number - 1}"
@@ -195,16 +194,25 @@ class Splitter:
         """The names of the tides' own quantities."""
         return {word for name in self.tides for word in (name, tides.later(name))}
 
-    def good_to(self, name):
-        """By how many units a tide's two quantities may be off in a part after the first. The tide starts anew from its
-        constants, and what it was off by at the beginning has turned with it."""
-        quantity = next(each for each in self.whole.quantities if each.name == name)
-        given = quantity.good_to - self.tides[name].starts()[0][1]
-        return ceil(given * TURNED * SCALE)
-
     def phase(self, name, number):
-        """A tide's phase when a part begins."""
-        return self.tides[name].phase - self.tides[name].speed * self.first(number) * self.time.step
+        """A tide's phase when a part begins: it starts anew from its constants."""
+        return self.tides[name].phase - self.angle(name, number)
+
+    def angle(self, name, number):
+        """By how much a tide has turned when a part begins."""
+        return self.tides[name].speed * self.first(number) * self.time.step
+
+    def given(self, name):
+        """How good a tide is said to be, in wholes."""
+        quantity = next(each for each in self.whole.quantities if each.name == name)
+        return quantity.good_to - self.tides[name].starts()[0][1]
+
+    def turned(self, name, number):
+        """How good a tide is when a part begins, in units. What it and the later one are off by turns with them, and half
+        way to a quarter each may be off by both."""
+        angle = self.angle(name, number)
+        both = abs(tides.cosine(angle)) + abs(tides.cosine(angle - tides.QUARTER)) + tides.COSINE_OFF_BY
+        return ceil(self.given(name) * both * SCALE)
 
     def meant(self, number, made, part):
         """What a part means: the long passage's description but for its title, its times and its starts."""
@@ -225,9 +233,10 @@ class Splitter:
         for quantity, (value, radius) in self.ends(made, number - 1):
             yield quantity.name, (Fraction(value, SCALE), Fraction(radius, SCALE))
         for name, tide in self.tides.items():
+            given = Fraction(self.turned(name, number), SCALE)
             anew = replace(tide, phase=self.phase(name, number)).starts()
             for word, (start, cut) in zip((name, tides.later(name)), anew):
-                yield word, (start, Fraction(self.good_to(name), SCALE) + cut)
+                yield word, (start, given + cut)
 
 
 def degrees_text(phase):

@@ -10,6 +10,7 @@ QUARTER = PI / 2
 PLACES = 9  # Behind the point of a whole, of a start that had to be cut. A unit is 60 times as large as the last.
 FINE = 60  # Places of an angle whose cosine is worked out.
 ORDERS = 35  # pi^70 / 70! is less than 10^-60.
+COSINE_OFF_BY = Fraction(1, 10**50)
 MOST_ANGLE = 10**6  # Up to which pi's 64 places are more than enough.
 
 
@@ -50,7 +51,7 @@ def start(amplitude, angle):
 
 
 def cosine(angle):
-    """The cosine by its series, off by less than 10^-50."""
+    """The cosine by its series, off by less than half of COSINE_OFF_BY."""
     turns = near(angle / (2 * PI))
     rest = Fraction(near((angle - turns * 2 * PI) * 10**FINE), 10**FINE)
     term = total = Fraction(1)

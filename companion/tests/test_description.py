@@ -123,12 +123,21 @@ REFUSALS = [
     ([("start = 1.60", 'start = "1,000,000 mm"')], 30, "1,000,000 has commas: write 1000000"),
     ([("start = 1.60", 'start = "±1 m"')], 30, "not '±1 m'"),
     ([("start = 1.60", 'start = "1 M"')], 30, "'M' is no unit that is known here"),
+    ([('step = "10 min"', 'step = "10 mins"')], 6, "and m/s and the like: is 'min' meant?"),
+    ([("start = 1.60", 'start = "1.60 m ± 4 cm"')], 30, "'start' is the reading alone: how good it is stands in 'good_to'"),
+    ([("weights = { water = 1,", "weights = { Water = 1,")], 38, "'Water' is no quantity of this description: is 'water' meant?"),
+    ([("[quantity.water]", "[quantity.höhe]")], 27, "a name has letters from a to z, digits and _"),
+    ([("start = 1.60", "start = 16:00")], 30, "16:00 is a time, and 'start' is none: times are begin, highest and lowest"),
     ([('good_to = "4 cm"', 'good_to = "±-4 cm"')], 31, "'good_to' is 0 or more"),
     ([('good_to = "4 cm"', 'good_to = "± 0,04"')], 31, "0,04 has a comma: write 0.04"),
     ([('m2 = "28.9841042 deg/h"', 'm2 = "28,98 °/h"')], 13, "'m2': 28,98 has a comma: write 28.98"),
     ([('rate = "m2 * fall"', 'rate = "0,5 * fall"')], 19, "0,5 has a comma: write 0.5"),
     ([('rate = "m2 * fall"', 'rate = "m2 \N{EN DASH} fall"')], 19, "is a dash and no minus"),
     ([('rate = "m2 * fall"', 'rate = "fall / 2"')], 19, "in the place of dividing, multiply"),
+    ([('rate = "m2 * fall"', 'rate = "2 * m2 / 2"')], 19, "in the place of dividing, multiply"),
+    ([('rate = "m2 * fall"', 'rate = "0.1 m/h"')], 19, "a number in a rate has no unit behind it"),
+    ([('rate = "m2 * fall"', 'rate = "fall - 10cm"')], 19, "a number in a rate has no unit behind it"),
+    ([('rate = "m2 * fall"', 'rate = "2 fall"')], 19, "before 'fall' a sign is missing"),
 ]
 
 WEIGHTS = "weights = { water = 1, rise = -0.5 }"
@@ -298,6 +307,10 @@ class Reading(unittest.TestCase):
         self.assertEqual(description.read(TIDE).clearance.sill, 0)
         self.assertIsNone(description.read(edited(("base = -1", 'sill = "none"'))).clearance.sill)
 
+    def test_no_unit_is_guessed_for_a_single_letter(self):
+        """M is a nautical mile to many."""
+        self.assertTrue(refusal(("start = 1.60", 'start = "1 M"'))[1].endswith("and m/s and the like"))
+
     def test_a_clock_in_words(self):
         for begin in ('"08:00"', "08:00:00", "08:00", "8:00  # low water", "2026-11-17T08:00:00", "2026-11-17 08:00"):
             read = description.read(edited(("begin = 08:00:00", f"begin = {begin}")))
@@ -323,6 +336,9 @@ class Reading(unittest.TestCase):
         self.assertEqual(mended(text).count('"20:30"'), 1)
         inside = edited((rate, "rate = '''\nbegin = 08:00\n'''"), ("begin = 08:00:00", "begin = 20:30"))
         self.assertIn("\nbegin = 08:00\n", mended(inside))
+        for entry in ("highest = 2:10", "lowest = 2026-11-18T02:10 # a day later"):
+            self.assertEqual(mended(entry), entry.replace("2:10", '2:10"').replace("= ", '= "'))
+        self.assertEqual(mended("start = 2:10"), "start = 2:10")
         self.assertEqual(mended(TIDE), TIDE)
 
     def test_signs_as_they_are_printed(self):

@@ -292,6 +292,12 @@ class Axes(unittest.TestCase):
         self.marks("begin = 2026-11-30T18:00:00+01:00\n", 60)
         self.assertIn("clock time (+01:00), 30 Nov 2026 to 1 Dec 2026", labels(self.lines))
 
+    def test_an_offset_stands_beside_the_clock(self):
+        self.marks("begin = 2026-11-30T18:00:00+01:00\n", 60)
+        self.assertIn("clock time (+01:00), 30 Nov 2026 to 1 Dec 2026", labels(self.lines))
+        self.marks('begin = "08:00Z"\n', 6)
+        self.assertIn("clock time (UTC)", labels(self.lines))
+
     def test_several_days_over_the_end_of_a_year(self):
         found = self.marks("begin = 2027-12-30T09:20:00\n", 240, "20 min")
         days = [text for text, _ in found if len(text) == 2]

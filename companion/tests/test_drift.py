@@ -9,6 +9,7 @@ from math import floor
 from unittest import mock
 
 import description
+import draw
 import drift
 import show
 from drift import FINE, Share, after_step, drifts, grown
@@ -137,6 +138,47 @@ class ClosedForms(unittest.TestCase):
         self.assertGreater(beyond, rows // 20, "the sheet's own radii would do: nothing is tried here")
 
 
+class Clearances(unittest.TestCase):
+    COUNT = 60
+
+    def test_whatever_is_called_clear_is_so_by_the_description(self):
+        """x' = c v and z' = -c v with a few units and a half for c, weights of both signs, a whole of its own, true starts at
+        both ends of what they are good to, and a need that is met exactly at a row."""
+        rng = random.Random(3)
+        clear = beyond = 0
+        for _ in range(self.COUNT):
+            c = half_a_unit_off(rng, Fraction(1, SCALE), Fraction(9, SCALE))
+            v, step, steps = rng.choice([-31, 31]), rng.choice([-1, 1]) * Fraction(1, 2), rng.randint(100, 240)
+            good, weights = Fraction(rng.choice([0, 5]), 1000), [Fraction(rng.randint(-2000, 2000), 1000) for _ in range(2)]
+
+            def least(t):
+                return weights[0] * (1 + c * v * t) + weights[1] * (2 - c * v * t) - good * sum(map(abs, weights))
+
+            need = Fraction(floor(least(rng.randint(50, steps) * step) * 10**9), 10**9)
+            text = f"[time]\nstep = {written(step)}\nsteps = {steps}\n"
+            for name, start, off, rate in (
+                ("v", v, 0, "0"),
+                ("x", 1, good, f"{written(c)} * v"),
+                ("z", 2, good, f"-{written(c)} * v"),
+            ):
+                text += f'[quantity.{name}]\nstart = {start}\ngood_to = {written(Fraction(off))}\n'
+                text += f'tolerance = 1\nrate = "{rate}"\n'
+            text += f"[clearance]\nwhole = {rng.choice([1, 2, 4])}\nneed = {written(need)}\n"
+            text += f"weights = {{ x = {written(weights[0])}, z = {written(weights[1])} }}\n"
+            made = plan(description.read(text))
+            for first, last in search(made).runs:
+                clear += last + 1 - first
+                for row in (first - 1, last):
+                    self.assertGreaterEqual(least(row * step), need, text)
+            lows = (
+                sum(weight * (part.low if weight > 0 else part.high) for weight, part in zip(weights, row.parts[1:]))
+                for row in made.answer.rows
+            )
+            beyond += any(low >= need * SCALE > least(row * step) * SCALE for row, low in enumerate(lows, 1))
+        self.assertGreater(clear, 1000)
+        self.assertGreater(beyond, 3, "the sheet's own lows would do: nothing is tried here")
+
+
 class Bounds(unittest.TestCase):
     def test_one_quantity_is_bounded_by_its_exponential_and_hardly_wider(self):
         """u' = m u + e from u: u e^m + e (e^m - 1) / m, for small and large m."""
@@ -235,6 +277,15 @@ class Unbounded(unittest.TestCase):
         words = "rows from 13 on answer for the sheet's equations alone, and nothing in them is called certain"
         self.assertTrue(any(words in line for line in show.remarks(self.plan)))
         self.assertTrue(any(words in line for line in show.drift_words(self.plan)))
+
+    def test_a_picture_says_it_too(self):
+        self.assertIn(*show.unbounded_words(self.plan), draw.Picture(self.plan, None, self.plan.subjects[4]).notes())
+
+    def test_back_in_time(self):
+        text = TIDE.replace('step = "10 min"', 'step = "-10 min"')
+        with mock.patch("plan.drifts", lambda *given: drifts(*given)[:2]):
+            [words] = show.unbounded_words(plan(description.read(text)))
+        self.assertTrue(words.startswith("before 07:40, what the sheet's rounded"), words)
 
     def test_the_cells(self):
         mine, whole = self.plan.subjects[4].cells, self.known.subjects[4].cells

@@ -75,6 +75,16 @@ class Times(unittest.TestCase):
         self.assertEqual(told.text(1), "08:00:07.407")
         self.assertEqual(told.window(2, 3), ("08:00:07.408", "08:00:22.222"))
 
+    def test_however_short_a_step_is_a_window_begins_before_it_ends(self):
+        for step, first, window in [
+            ('"0.0000001 s"', "08:00:00.0000001", ("08:00:00.0000005", "08:00:00.0000010")),
+            ("0.00000001", "08:00:00.000036", ("08:00:00.000180", "08:00:00.000360")),
+        ]:
+            told = clock(step=step)
+            self.assertEqual((told.text(1), told.window(6, 10)), (first, window))
+        plain = clock(unit="1", begin=None, step="0.0000001")
+        self.assertEqual(plain.window(6, 6), ("0.0000005000", "0.0000006000"))
+
     def test_back(self):
         told = clock(step='"-10 min"')
         self.assertEqual([told.text(row) for row in (0, 1, 12)], ["08:00", "07:50", "06:00"])

@@ -209,25 +209,35 @@ class Tides(unittest.TestCase):
         self.assertEqual(parse(second)["tide"]["moon"]["phase"], f"{float(degrees):.7f} deg")
         self.assertNotIn("almanac", second)
 
+    def test_times_as_people_write_them(self):
+        bare = MOON.replace("begin = 08:00:00", "begin = 8:00").replace("lowest = 08:00:00", "lowest = 08:00")
+        self.assertEqual(Splitter(bare, 36).parts()[1:], Splitter(MOON, 36).parts()[1:])
+
     def test_a_phase_without_an_end(self):
         text = MOON.replace('"28.9841042 deg/h"', '"29 deg/d"').replace('"10 min"', '"7 min"').replace('"2 d"', '"14 h"')
         second = Splitter(text, 71).parts()[1]
         words = parse(second)["tide"]["moon"]["phase"]
         self.assertEqual(len(words.partition(".")[2]), 40 + len(" deg"))
 
-    def test_what_a_tide_is_off_by_turns_with_it(self):
-        """5 units in each of its two quantities are up to 7.07 in one of them, an eighth of a turn later."""
-        text = MOON.replace("good_to = 0", "good_to = { units = 5 }").replace('tolerance = "6 cm"', "tolerance = 1")
-        parts = [description.read(part) for part in Splitter(text, 9).parts()[:9]]
-        self.assertEqual(parts[0].quantities[0].good_to, Fraction(5, SCALE))
-        self.assertEqual(parts[1].quantities[0].good_to, Fraction(8, SCALE) + Fraction(1, 10**9))
-        speed, off = Fraction("28.9841042") * PI / 180, Fraction(5, SCALE)
-        for number, part in enumerate(parts):
-            angle = speed * 9 * number / 6
-            turned = off * (tide.cosine(angle) + tide.cosine(angle - PI / 2))
-            truth = Fraction(-9, 5) * tide.cosine(angle) + turned
-            moon = part.quantities[0]
-            self.assertTrue(abs(moon.start - truth) <= moon.good_to + Fraction(1, 10**40), number)
+    def test_how_good_it_is_turns_with_the_tide(self):
+        """Six hours of M2 are 173.9 degrees, of which cosine and sine are 0.9943 and 0.1062: 5 units become 5.503."""
+        found = description.read(Splitter(MOON.replace("good_to = 0", "good_to = { units = 5 }"), 36).parts()[1])
+        for quantity in found.quantities[:2]:
+            self.assertEqual(quantity.good_to, Fraction(6, SCALE) + Fraction(1, 10**9))
+        self.assertEqual(parse(Splitter(MOON, 36).parts()[1])["tide"]["moon"]["good_to"], 0)
+
+    def test_every_tide_that_was_meant_lies_in_every_part(self):
+        """One that is off by all that it may be, and so is the same a quarter of its period later."""
+        text = MOON.replace("good_to = 0", 'good_to = "3 cm"').replace('"6 cm"', "1").replace('"2 d"', '"5 h"')
+        speed, off = Fraction("28.9841042") * PI / 180, Fraction(3, 100)
+        for number, part in enumerate(Splitter(text, 10).parts()):
+            made = plan(description.read(part))
+            for row, cell in enumerate((made.subjects[0].start, *made.subjects[0].cells)):
+                angle = speed * (10 * number + row) / 6
+                cosine, sine = tide.cosine(angle), tide.cosine(angle - PI / 2)
+                for tidal, later in ((off, off), (off, -off), (-off, off), (-off, -off)):
+                    meant = (Fraction(-9, 5) + tidal) * cosine + later * sine
+                    self.assertTrue(cell.least <= meant <= cell.most and cell.low <= meant <= cell.high, (number, row))
 
 
 class Command(Folder):

@@ -123,6 +123,24 @@ class Descriptions(unittest.TestCase):
         self.assertEqual(starts[0], starts[1])
         self.assertNotEqual(starts[1], starts[2])
 
+    def test_a_night_needs_days(self):
+        """From 22:00 on, 03:00 is the next day's to a person; without a day it would be the morning's before."""
+        night, other = ("begin = 08:00:00", "begin = 22:00:00"), ('length = "1 h"', 'length = "10 h"')
+        for edit in ("highest = 03:00:00", 'lowest = "8:00"'):
+            line, why = refusal(night, other, ('phase = "180 deg"', edit))
+            self.assertEqual(line, 16)
+            self.assertIn("without a day is a time of the day on which the passage begins, and there it lies outside", why)
+        back = ("begin = 08:00:00", "begin = 02:00:00"), ('step = "10 min"', 'step = "-10 min"'), other
+        self.assertEqual(refusal(*back, ('phase = "180 deg"', "highest = 23:00:00"))[0], 16)
+        for edits in (
+            [night, ('phase = "180 deg"', "highest = 23:00:00"), other],
+            [night, ('phase = "180 deg"', "highest = 09:00:00"), other],
+            [night, ('phase = "180 deg"', "highest = 03:00:00"), other, ("28.9841042 deg/h", "30 deg/h")],
+            [(night[0], "begin = 2026-11-30T22:00:00"), ('phase = "180 deg"', "highest = 2026-12-01T03:00:00"), other],
+            [*back, ('phase = "180 deg"', "highest = 01:00:00")],
+        ):
+            self.assertEqual(refusal(*edits), (None, "not refused"), edits)
+
     def test_good_to_is_for_both_and_a_cut_start_has_a_unit_more(self):
         found = read(("amplitude = 1.8", "amplitude = 1.5"), ("good_to = 0\n", 'good_to = "1 cm"\n'))
         self.assertEqual([quantity.good_to for quantity in found.quantities[:2]], [Fraction(1, 100)] * 2)
@@ -170,6 +188,8 @@ class Descriptions(unittest.TestCase):
             ([("28.9841042 deg/h", "-28 deg/h")], 15, "'speed' is an angle for a time"),
             ([('"28.9841042 deg/h"', "28.9841042")], 15, "'speed' is an angle for a time"),
             ([("28.9841042 deg/h", "2000 deg/h")], 15, "moon, the rate's 'speed * moon_later'"),
+            ([("28.9841042 deg/h", "28,9841042 deg/h")], 15, "28,9841042 has a comma: write 28.9841042"),
+            ([('phase = "180 deg"', "hightest = 08:00:00")], 16, "'hightest' is no entry of a tide: is 'highest' meant?"),
             ([('"180 deg"', "180")], 16, "'phase' is an angle from -360 to 360 deg"),
             ([('"180 deg"', '"400 deg"')], 16, "'phase' is an angle from -360 to 360 deg"),
             ([('"180 deg"', '"180 m"')], 16, "'phase' is an angle from -360 to 360 deg"),

@@ -7,6 +7,7 @@ from dataclasses import replace
 from fractions import Fraction
 
 import description
+import draw
 import show
 import valid
 from answer import Answer, Part, Row
@@ -179,6 +180,10 @@ class Telling(unittest.TestCase):
         made = basin((ROOT_RATE, f'{ROOT_RATE}\nvalid = "0 m^0.5 or more"'))
         bare = replace(made, description=replace(made.description, clearance=None), subjects=made.subjects[:-1])
         self.assertIn("from 07:49 on root may be", show.text(bare, None, bare.subjects))
+
+    def test_a_picture_says_it_too(self):
+        made = basin((ROOT_RATE, f'{ROOT_RATE}\nvalid = "0 m^0.5 or more"'))
+        self.assertIn(valid.words(made)[0], draw.Picture(made, search(made), made.subjects[0]).notes())
 
     def test_going_back(self):
         text = edited((RATE, f'{RATE}\nvalid = "1.7 m or less"'), ('step = "10 min"', 'step = "-10 min"'))
