@@ -41,8 +41,9 @@
  *                    rows[PLANNER_HIGH_PLACE(n, j, 0)]);
  *         if (summary[PLANNER_RESULT] == PLANNER_ACCEPTED)
  *             return 0;
- *         printf("refused at step %" PRIu64 ": %s\n", summary[PLANNER_AT],
- *                planner_refusal_words((int64_t)summary[PLANNER_RESULT]));
+ *         if (summary[PLANNER_AT] > 0)
+ *             printf("step %" PRIu64 ": ", summary[PLANNER_AT]);
+ *         printf("refused: %s\n", planner_refusal_words((int64_t)summary[PLANNER_RESULT]));
  *         return 1;
  *     }
  *
