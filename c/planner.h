@@ -41,8 +41,9 @@
  *                    rows[PLANNER_HIGH_PLACE(n, j, 0)]);
  *         if (summary[PLANNER_RESULT] == PLANNER_ACCEPTED)
  *             return 0;
- *         printf("refused at step %" PRIu64 ": %s\n", summary[PLANNER_AT],
- *                planner_refusal_words((int64_t)summary[PLANNER_RESULT]));
+ *         if (summary[PLANNER_AT] > 0)
+ *             printf("step %" PRIu64 ": ", summary[PLANNER_AT]);
+ *         printf("refused: %s\n", planner_refusal_words((int64_t)summary[PLANNER_RESULT]));
  *         return 1;
  *     }
  *
@@ -92,9 +93,9 @@ extern "C" {
 #define PLANNER_CONVERTED_LENGTH INT64_C(4096)
 
 /*
- * The most quantities and the most steps that a sheet may have; the most steps that a stored sheet may have, which
- * planner_convert makes two sheets of where there are more than PLANNER_MOST_STEPS; the largest weight, and the largest base
- * or need, of a search for water enough, without their sign, in units; how many units make 1.
+ * The most quantities and the most steps that a sheet may have; the most steps that a stored sheet may have (where these are
+ * more than PLANNER_MOST_STEPS, planner_convert makes two sheets of it); the largest weight, and the largest base or need, of
+ * a search for water enough, without their sign, in units; how many units make 1.
  */
 #define PLANNER_MOST_QUANTITIES INT64_C(8)
 #define PLANNER_MOST_STEPS INT64_C(240)

@@ -5,6 +5,7 @@
 #include <limits.h>
 #include <stdio.h>
 #include "planner.h"
+#include "planner.h" /* Once more, as by way of another header. */
 
 #if PLANNER_SCALE != 16777216 || PLANNER_ROWS_LENGTH < PLANNER_MOST_STEPS || PLANNER_VERSION_MAJOR < 1
 #error "the constants cannot be compared before the program is compiled"
@@ -67,6 +68,8 @@ static void check_places(void)
     CHECK(PLANNER_HIGH_PLACE(size_n, j, i) == PLANNER_ROWS_LENGTH - 1);
     CHECK(PLANNER_HIGH_PLACE(n, size_j, size_i) == PLANNER_ROWS_LENGTH - 1);
     CHECK(PLANNER_DEGREE_PLACE(n, j + 1) == PLANNER_ROWS_LENGTH);
+    CHECK(PLANNER_ROWS_LENGTH / PLANNER_DEGREE_PLACE(n, 1) == 240 && 2 * PLANNER_VALUE_PLACE(n, 0, i) == 16);
+    CHECK(2 * PLANNER_RADIUS_PLACE(n, 0, 0) + PLANNER_LOW_PLACE(n, 0, 0) * 2 + PLANNER_HIGH_PLACE(n, 0, 0) * 2 == 102);
     CHECK(PLANNER_VALUE_PLACE(n, j, i - 7) == PLANNER_DEGREE_PLACE(n, j) + 1);
     CHECK(PLANNER_VALUE_PLACE(1, INT_MAX, INT_MAX) == (size_t)6 * INT_MAX + 1);
     CHECK(sizeof PLANNER_ROW_WIDTH(n) == sizeof(size_t) && sizeof PLANNER_LOW_PLACE(n, j, i) == sizeof(size_t));

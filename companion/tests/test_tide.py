@@ -11,24 +11,12 @@ import programs
 import tide
 from entries import Refused
 from plan import plan
-from samples import edited
+from samples import TIDE, edited
 from sheet import Writer
 from units import PI, SCALE
 
 CONSTANTS = '[constants]\nm2 = "28.9841042 deg/h"\n'
-BY_HAND = """\
-[quantity.rise]
-unit = "m"
-start = -1.8
-good_to = 0
-rate = "m2 * fall"
-
-[quantity.fall]
-unit = "m"
-start = 0
-good_to = 0
-rate = "-m2 * rise"
-"""
+BY_HAND = TIDE[TIDE.index("[quantity.rise]"):TIDE.index("\n[quantity.water]")]
 MOON = """\
 [tide.moon]
 unit = "m"
