@@ -352,8 +352,8 @@ class Reader:
         return phase if entry == "highest" else phase + PI
 
     def since_begin(self, found, time, path):
-        """How long after the beginning a time of the clock is, in the unit of time, and whether its day is given: else it is
-        the one on which the passage begins."""
+        """How long after the beginning a time of the clock is, in the unit of time, and whether its day is given: else it
+        is the one on which the passage begins."""
         moment, dated = self.moment(found, path)
         if moment.tzinfo is not None:
             self.refuse(f"'{path[-1]}' is told by the same clock as 'begin', and has no offset of its own", *path)
@@ -374,8 +374,9 @@ class Reader:
         here, *beside = (first <= since + days * day <= last for days in (0, 1, -1))
         if not here and any(beside) and (speed * day / (2 * PI)).denominator != 1:
             self.refuse(
-                f"'{path[-1]}' without a day is a time of the day on which the passage begins, and there it lies outside the "
-                "passage, which comes to that time of another day: write a day for it and for 'begin', as 2026-11-17T08:00",
+                f"'{path[-1]}' without a day is a time of the day on which the passage begins, and there it lies outside "
+                "the passage, which comes to that time of another day: write a day for it and for 'begin', as "
+                "2026-11-17T08:00",
                 *path,
             )
 
@@ -514,7 +515,8 @@ class Reader:
             self.refuse("[clearance] has 'weights', as { water = 1 }", "clearance", "weights")
         names = {quantity.name for quantity in quantities}
         for name in weights.keys() - names:
-            self.refuse(f"'{name}' is no quantity of this description{meant(name, names)}", "clearance", "weights", name)
+            known = meant(name, names)
+            self.refuse(f"'{name}' is no quantity of this description{known}", "clearance", "weights", name)
         for quantity in quantities:
             given, wanted = unit(quantity.scale.unit), unit(scale.unit)
             if quantity.name in weights and given and wanted and given.is_like(wanted) and given.size != wanted.size:

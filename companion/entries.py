@@ -48,8 +48,8 @@ def slip(text, said):
 
 
 def mended(text):
-    """The text with the time of each 'begin = 20:30' between quotes. TOML itself has said that it cannot read that line:
-    so it is none of a text over several lines."""
+    """The text with the time of each 'begin = 20:30' between quotes. TOML itself has said that it cannot read that
+    line: so it is none of a text over several lines."""
     while True:
         try:
             loaded(text)

@@ -208,8 +208,8 @@ class Splitter:
         return quantity.good_to - self.tides[name].starts()[0][1]
 
     def turned(self, name, number):
-        """How good a tide is when a part begins, in units. What it and the later one are off by turns with them, and half
-        way to a quarter each may be off by both."""
+        """How good a tide is when a part begins, in units. What it and the later one are off by turns with them, and
+        half way to a quarter each may be off by both."""
         angle = self.angle(name, number)
         both = abs(tides.cosine(angle)) + abs(tides.cosine(angle - tides.QUARTER)) + tides.COSINE_OFF_BY
         return ceil(self.given(name) * both * SCALE)

@@ -142,14 +142,15 @@ class Clearances(unittest.TestCase):
     COUNT = 60
 
     def test_whatever_is_called_clear_is_so_by_the_description(self):
-        """x' = c v and z' = -c v with a few units and a half for c, weights of both signs, a whole of its own, true starts at
-        both ends of what they are good to, and a need that is met exactly at a row."""
+        """x' = c v and z' = -c v with a few units and a half for c, weights of both signs, a whole of its own, true starts
+        at both ends of what they are good to, and a need that is met exactly at a row."""
         rng = random.Random(3)
         clear = beyond = 0
         for _ in range(self.COUNT):
             c = half_a_unit_off(rng, Fraction(1, SCALE), Fraction(9, SCALE))
             v, step, steps = rng.choice([-31, 31]), rng.choice([-1, 1]) * Fraction(1, 2), rng.randint(100, 240)
-            good, weights = Fraction(rng.choice([0, 5]), 1000), [Fraction(rng.randint(-2000, 2000), 1000) for _ in range(2)]
+            good = Fraction(rng.choice([0, 5]), 1000)
+            weights = [Fraction(rng.randint(-2000, 2000), 1000) for _ in range(2)]
 
             def least(t):
                 return weights[0] * (1 + c * v * t) + weights[1] * (2 - c * v * t) - good * sum(map(abs, weights))
