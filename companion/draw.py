@@ -4,11 +4,10 @@ hatched; and in words over it what the marks say, and under it what they are."""
 
 from fractions import Fraction
 
-import valid
 from axis import number_marks, numbers_across, time_heading, times_across
 from lines import pixels, wrapped
 from page import EDGE, GAP, LINE_HEIGHT, PLOT, RIGHT, WIDTH, Page, across, box, number, upright
-from show import clear_words, refusal_words, title, unbounded_words
+from show import clear_words, end_words, refusal_words, title
 from units import at_least, with_unit
 
 # gnuplot's kind of picture, an option of it, and the points of its letters, by a file's ending.
@@ -85,7 +84,7 @@ class Picture:
         """What the marks say, under the headline: where it is clear, from when on nothing is called so, and why a step
         was refused; before that what is drawn, where it has no room beside the plot."""
         drawn = [] if self.label else [title(self.subject)]
-        ending = [*valid.words(self.plan), *unbounded_words(self.plan)]
+        ending = end_words(self.plan)
         return [*drawn, *self.clear_notes(), *ending, *refusal_words(self.plan)[:1]]
 
     def clear_notes(self):

@@ -47,6 +47,7 @@ def plan(description):
 
 
 def with_answer(description, sheet, answer):
+    """The plan that a sheet and its answer make."""
     drifted = drifts(description, sheet, answer)
     subjects = tuple(all_subjects(description, sheet, answer, drifted))
     return Plan(description, sheet, answer, drifted, Clock(description.time), subjects)

@@ -4,7 +4,6 @@ radius and whatever lies above up, whatever lies below down."""
 
 import csv
 import io
-from fractions import Fraction
 from math import ceil, floor
 
 import explain
@@ -75,10 +74,10 @@ def clear_words(plan, search):
     return words
 
 
-def remarks(plan):
+def remark(plan):
     """How the tables are to be read."""
     besides = f", and what {ROUNDED} can do" if any(map(any, plan.drifts)) else ""
-    return [f"({OUTWARD}{besides})", *(f"({words})" for words in unbounded_words(plan))]
+    return f"({OUTWARD}{besides})"
 
 
 def unbounded_words(plan):
@@ -101,10 +100,11 @@ def drift_words(plan):
         return []
     if not rows:
         return [f"what {ROUNDED} can do is not known: the passage has no rows"]
-    last = [Fraction(0)] * len(described.quantities) if not plan.drifts else plan.drifts[-1]
+    if not plan.drifts:
+        return unbounded_words(plan)
     told = (
         f"{quantity.name} {with_unit(at_most(drift * quantity.scale.whole), quantity.scale.unit)}"
-        for quantity, drift in zip(described.quantities, last)
+        for quantity, drift in zip(described.quantities, plan.drifts[-1])
     )
     until = f"up to row {len(plan.drifts)}, at most"
     return [f"what {ROUNDED} can do, {until}: {', '.join(told)}; show and draw add it outward", *unbounded_words(plan)]
@@ -136,8 +136,13 @@ def window_words(plan, search):
 
 
 def foremost(plan, search):
-    """What stands first: where there is water enough, where no equation holds any more, and why a step is refused."""
-    return [part for part in (window_words(plan, search), valid.words(plan), refusal_words(plan)) if part]
+    """What stands first: where there is water enough, from when on nothing is called so, and why a step is refused."""
+    return [part for part in (window_words(plan, search), end_words(plan), refusal_words(plan)) if part]
+
+
+def end_words(plan):
+    """From when on nothing is called certain: no equation holds there, or what rounding can do is not bounded."""
+    return [*valid.words(plan), *unbounded_words(plan)]
 
 
 def brief(plan, search):
@@ -153,7 +158,7 @@ def text(plan, search, subjects, digits=None):
     parts += foremost(plan, search)
     if plan.answer.rows:
         parts += [table(plan, subject, subject.digits if digits is None else digits) for subject in subjects]
-        parts.append(remarks(plan))
+        parts.append([remark(plan)])
     if search is not None and search.runs:
         parts.append(FOOT)
     return laid_out(parts)

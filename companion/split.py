@@ -14,7 +14,6 @@ import description as descriptions
 import programs
 import show
 import tide as tides
-import valid
 from clock import Clock
 from entries import Lines, Refused, mended, parse
 from plan import plan
@@ -120,7 +119,7 @@ class Splitter:
         """A part can only follow where the one before comes to its last row, within the ranges of its equations."""
         if made.answer.result:
             raise Ended(made, number)
-        for words in (*valid.words(made), *show.unbounded_words(made)):
+        for words in show.end_words(made):
             raise Refused(None, f"part {number}: {words}, and no part can follow")
 
     def advice(self):

@@ -204,7 +204,7 @@ class Bounds(unittest.TestCase):
         made = planned("square")
         self.assertEqual(made.drifts, ((0,),))
         self.assertEqual(show.drift_words(made), [])
-        self.assertEqual(show.remarks(made), [f"({show.OUTWARD})"])
+        self.assertEqual(show.remark(made), f"({show.OUTWARD})")
 
     def test_the_drift_is_outward_of_every_cell(self):
         made = planned("tide-over-sill")
@@ -276,8 +276,9 @@ class Unbounded(unittest.TestCase):
 
     def test_it_is_said(self):
         words = "rows from 13 on answer for the sheet's equations alone, and nothing in them is called certain"
-        self.assertTrue(any(words in line for line in show.remarks(self.plan)))
-        self.assertTrue(any(words in line for line in show.drift_words(self.plan)))
+        self.assertIn(words, show.text(self.plan, None, self.plan.subjects[:1]))
+        self.assertIn(words, show.brief(self.plan, None))
+        self.assertIn(words, show.drift_words(self.plan)[-1])
 
     def test_a_picture_says_it_too(self):
         self.assertIn(*show.unbounded_words(self.plan), draw.Picture(self.plan, None, self.plan.subjects[4]).notes())
@@ -297,7 +298,8 @@ class Unbounded(unittest.TestCase):
         with mock.patch("plan.drifts", lambda *given: ()):
             made = with_answer(self.known.description, self.known.sheet, self.known.answer)
         self.assertEqual(search(made, Fraction(-30), made.description.time.step).runs, ())
-        self.assertIn("rows from 1 on answer", show.drift_words(made)[-1])
+        [words] = show.drift_words(made)
+        self.assertIn("rows from 1 on answer", words)
 
 
 class Rows(unittest.TestCase):
