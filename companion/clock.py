@@ -5,10 +5,12 @@ import datetime
 from fractions import Fraction
 from math import ceil, floor
 
-from units import decimal, near, unit
+from units import decimal, near, unit, with_unit
 
 SECOND = unit("s")
-FINEST = 3  # Places behind the second that are shown at most, but for steps of less than ten of the last.
+# Places behind the second that are shown at most, but for steps of less than ten of the last. Plain numbers have as many
+# more.
+FINEST = 3
 
 
 class Clock:
@@ -18,10 +20,8 @@ class Clock:
         self.time = time
         self.is_clock = time.begin is not None
         instants = [self.seconds(row) for row in range(time.steps + 1)]
-        finest = self.finest()
-        self.digits = next(
-            (digits for digits in range(finest) if all(is_whole(s * 10**digits) for s in instants)), finest
-        )
+        most = self.finest() + (0 if self.is_clock else FINEST)
+        self.digits = next((digits for digits in range(most) if all(is_whole(s * 10**digits) for s in instants)), most)
         self.in_minutes = self.is_clock and all(is_whole(instant / 60) for instant in instants)
 
     def finest(self):
@@ -44,7 +44,7 @@ class Clock:
     def text(self, row, rounded=near):
         """A row's time. A window is told with its beginning rounded up and its end rounded down."""
         if not self.is_clock:
-            return decimal(self.seconds(row), self.digits + 3 if self.digits >= FINEST else self.digits, rounded)
+            return decimal(self.seconds(row), self.digits, rounded)
         parts = rounded(self.seconds(row) * 10**self.digits)
         day, within = divmod(parts, 86400 * 10**self.digits)
         seconds, part = divmod(within, 10**self.digits)
@@ -53,6 +53,11 @@ class Clock:
         if not self.in_minutes:
             told += f":{seconds:02}" + (f".{part:0{self.digits}}" if self.digits else "")
         return self.on_day(day, told)
+
+    def told(self, row, rounded=near):
+        """A row's time for a sentence: a plain number has its unit."""
+        text = self.text(row, rounded)
+        return text if self.is_clock else with_unit(text, self.time.scale.unit)
 
     def on_day(self, day, told):
         if self.time.dated:
@@ -63,7 +68,7 @@ class Clock:
         """From when to when a run of rows answers for its steps, earlier time first: from the row before the first. Where
         both are of one date, it is told once."""
         ends = sorted((first - 1, last), key=self.seconds)
-        begin, end = self.text(ends[0], ceil), self.text(ends[1], floor)
+        begin, end = self.text(ends[0], ceil), self.told(ends[1], floor)
         is_one_day = self.time.dated and begin.split()[0] == end.split()[0]
         return begin, end.split()[1] if is_one_day else end
 

@@ -8,10 +8,10 @@ them than a margin, the size d of y - x grows in each quantity by no more than
 
     d' <= M·d + e
 
-where M has the sizes of the derivatives of h·f in that wider box, and e those of k·g - h·f: for each term the size of
-k·(its coefficient) - h·(the written one), times the sizes of its factors. So d stays below the u that starts where d was
-and has u' = M·u + e. It never falls, so that its end bounds all of the step; and where its end is below the margin, y
-has never left the wider box."""
+where M has the sizes of the derivatives of h·f in that wider box, and e those of k·g - h·f: for each term, like ones
+having been added, the size of k·(its coefficient) - h·(the written one), times the sizes of its factors. So d stays
+below the u that starts where d was and has u' = M·u + e. It never falls, so that its end bounds all of the step; and
+where its end is below the margin, y has never left the wider box."""
 
 from collections import defaultdict
 from dataclasses import dataclass
@@ -41,8 +41,8 @@ def times(number, *others):
 
 @dataclass(frozen=True)
 class Share:
-    """One term over one step: the place of the quantity that it changes, and of its factors; the size of its written
-    coefficient times the written step; and how far that is from what was described."""
+    """Terms with the same factors over one step: the place of the quantity that they change, and of their factors; the size
+    of their written coefficients' sum times the written step; and how far that is from what was described."""
 
     to: int
     factors: tuple
@@ -51,15 +51,20 @@ class Share:
 
 
 def shares(description, sheet):
+    """Like terms are added first, as the planner adds them: what cancels there does not grow here either."""
     step = description.time.step / description.time.scale.whole
+    exact, sizes, written = defaultdict(Fraction), defaultdict(Fraction), defaultdict(Fraction)
     for (quantity, product), term in zip(meant(description), sheet.terms):
-        exact = coefficient(description, quantity, product) * step
-        written = Fraction(term.coef * sheet.step, SCALE**2)
-        moved = abs(exact - written)
+        like = term.to - 1, tuple(sorted(number - 1 for number in (term.first, term.second) if number))
+        number = coefficient(description, quantity, product) * step
+        exact[like] += number
+        sizes[like] += abs(number)
+        written[like] += Fraction(term.coef * sheet.step, SCALE**2)
+    for like, number in exact.items():
+        moved = abs(number - written[like])
         if moved:
-            moved += abs(exact) * PI_ROUNDED_BY
-        factors = tuple(number - 1 for number in (term.first, term.second) if number)
-        yield Share(term.to - 1, factors, up(abs(written)), up(moved))
+            moved += sizes[like] * PI_ROUNDED_BY
+        yield Share(*like, up(abs(written[like])), up(moved))
 
 
 def growth(shares, sizes):

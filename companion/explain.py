@@ -75,7 +75,7 @@ class Names:
     def step(self, at):
         if self.clock is None:
             return f"step {at}"
-        return f"step {at}, from {self.clock.text(at - 1)} to {self.clock.text(at)},"
+        return f"step {at}, from {self.clock.text(at - 1)} to {self.clock.told(at)},"
 
     def length(self, units):
         """A length of time that is no longer than so many units."""

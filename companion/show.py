@@ -85,7 +85,7 @@ def unbounded_words(plan):
     known = len(plan.drifts)
     if known == len(plan.answer.rows):
         return []
-    begin = plan.clock.text(known)
+    begin = plan.clock.told(known)
     when = f"from {begin} on" if plan.description.time.step > 0 else f"before {begin}"
     return [
         f"{when}, what {ROUNDED} can do is not bounded: rows from {known + 1} on answer for the sheet's equations "
@@ -117,7 +117,7 @@ def refusal_words(plan):
         return []
     where = ""
     if answer.at:
-        begin, end = plan.clock.text(answer.at - 1), plan.clock.text(answer.at)
+        begin, end = plan.clock.text(answer.at - 1), plan.clock.told(answer.at)
         where = f"step {answer.at}, from {begin} to {end}, is "
     return [
         f"{where}refused with {answer.result}: {MEANING[answer.result]}",

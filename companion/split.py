@@ -130,15 +130,12 @@ class Splitter:
     def words(self, number):
         """A part's rows of the long passage, and their times."""
         first, last = self.first(number), self.first(number) + self.steps(number)
-        told = f"rows {first} to {last}, from {self.clock.text(first)} to {self.clock.text(last)}"
-        return told if self.clock.is_clock else with_unit(told, self.time.scale.unit)
+        return f"rows {first} to {last}, from {self.clock.text(first)} to {self.clock.told(last)}"
 
     def title(self, number):
         words = f"part {number} of {self.count}"
         if number > 1:
-            told = self.clock.text(self.first(number))
-            told = told if self.clock.is_clock else with_unit(told, self.time.scale.unit)
-            words += f", from {told} {'on' if self.time.step > 0 else 'back'}"
+            words += f", from {self.clock.told(self.first(number))} {'on' if self.time.step > 0 else 'back'}"
         return f"{self.whole.title}: {words}" if self.whole.title else words
 
     def begin(self, number):

@@ -102,7 +102,7 @@ def words(plan):
     if found.name is None:
         return []
     back = plan.description.time.step < 0
-    moment = plan.clock.text(found.rows, floor if not back else lambda number: -floor(-number))
+    moment = plan.clock.told(found.rows, floor if not back else lambda number: -floor(-number))
     when, there = (f"before {moment}", "before that") if back else (f"from {moment} on", "from there on")
     return [
         f"{when} {found.name} may be {found.beyond}, and its equation holds {found.range.words()} only: nothing {there} is "

@@ -14,7 +14,7 @@ import drift
 import show
 from drift import FINE, Share, after_step, drifts, grown
 from plan import plan, search, with_answer
-from samples import TIDE, planned
+from samples import SHEETS, TIDE, planned
 from sheet import Writer
 from units import SCALE
 
@@ -53,6 +53,22 @@ def half_a_unit_off(rng, least, most):
     return Fraction(2 * rng.randint(floor(least * SCALE), floor(most * SCALE)) + 1, 2 * SCALE)
 
 
+ONE_RATE = """\
+[time]
+step = 0.1
+steps = 3
+[quantity.x]
+start = 1
+good_to = 0
+tolerance = 1
+rate = "{rate}"
+[quantity.y]
+start = 1
+good_to = 0
+rate = "0"
+"""
+
+
 class Form:
     """A random description with the truth about it: what its quantities are at a time."""
 
@@ -64,9 +80,11 @@ class Form:
         self.truth = self.kind(rng)
 
     def carried(self, rng):
-        """x' = c v with a speed v that stays."""
+        """x' = c v with a speed v that stays; now and then as two like terms."""
         c, v, x = half_a_unit_off(rng, 0, Fraction(1, 32)), rng.choice([-31, 31]), rng.randint(-2, 2)
-        self.starts, self.rates = {"v": v, "x": x}, {"v": "0", "x": f"{written(c)} * v"}
+        more = half_a_unit_off(rng, 0, 15)
+        rate = rng.choice([f"{written(c)} * v", f"{written(c + more)} * v - {written(more)} * v"])
+        self.starts, self.rates = {"v": v, "x": x}, {"v": "0", "x": rate}
         return lambda t: {"v": v, "x": x + c * v * t}
 
     def speeding(self, rng):
@@ -205,6 +223,28 @@ class Bounds(unittest.TestCase):
         self.assertEqual(made.drifts, ((0,),))
         self.assertEqual(show.drift_words(made), [])
         self.assertEqual(show.remark(made), f"({show.OUTWARD})")
+
+    def test_like_terms_are_added_first(self):
+        """x' = -1.9 x y + 1.8 y x grows as x' = -0.1 x y does, and is off by both roundings, with their signs."""
+        plain = ONE_RATE.format(rate="-0.1 * x * y")
+        [like], [alone] = (
+            list(drift.shares(read, Writer(read).sheet()))
+            for read in map(description.read, (ONE_RATE.format(rate="-1.9 * x * y + 1.8 * y * x"), plain))
+        )
+        self.assertEqual((like.to, like.factors), (alone.to, alone.factors))
+        self.assertLess(abs(like.size - alone.size), 2 * FINE // SCALE)
+        self.assertLess(like.moved, 2 * FINE // SCALE)
+        self.assertGreater(like.moved, 0)
+
+    def test_the_gallery_drifts_by_less_than_its_radii(self):
+        """But for some units, which a quantity that starts exactly may have less of."""
+        names = sorted(path.stem for path in SHEETS.glob("*.toml"))
+        for name in names:
+            made = planned(name)
+            self.assertEqual(len(made.drifts), len(made.answer.rows), name)
+            for row, found in zip(made.answer.rows, made.drifts):
+                for part, each in zip(row.parts, found):
+                    self.assertLess(each * SCALE, 2 * part.radius + 8, name)
 
     def test_the_drift_is_outward_of_every_cell(self):
         made = planned("tide-over-sill")

@@ -59,6 +59,12 @@ class Times(unittest.TestCase):
         told = clock(begin="2026-11-30T23:50:00")
         self.assertEqual([told.text(row) for row in (0, 1)], ["2026-11-30 23:50", "2026-12-01 00:00"])
 
+    def test_without_a_clock_a_sentence_has_the_unit_and_no_more_places_than_it_takes(self):
+        told = clock(unit="h", begin=None, step="0.025")
+        self.assertEqual(told.text(2), "0.050")
+        self.assertEqual((told.told(2), told.window(1, 2)), ("0.050 h", ("0.000", "0.050 h")))
+        self.assertEqual(clock(unit="1", begin=None, step="0.5").window(1, 2), ("0.0", "1.0"))
+
     def test_a_window_on_one_day_has_its_date_once(self):
         told = clock(begin="2026-11-30T23:00:00")
         self.assertEqual(told.window(1, 5), ("2026-11-30 23:00", "23:50"))
@@ -83,7 +89,7 @@ class Times(unittest.TestCase):
             told = clock(step=step)
             self.assertEqual((told.text(1), told.window(6, 10)), (first, window))
         plain = clock(unit="1", begin=None, step="0.0000001")
-        self.assertEqual(plain.window(6, 6), ("0.0000005000", "0.0000006000"))
+        self.assertEqual(plain.window(6, 6), ("0.0000005", "0.0000006"))
 
     def test_back(self):
         told = clock(step='"-10 min"')
