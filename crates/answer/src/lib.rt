@@ -1,4 +1,6 @@
 // The answer to a sheet: from its bytes, by way of buffers for the rows and the text, to the text's bytes.
+#![tactic(auto)]
+
 ghost use Rattle.std.specs.Prelude.{◌≡◌, List, ℕ, ◌≤◌, length, take};
 ghost use Rattle.model.specs.Reading.{read_sheet};
 ghost use Rattle.model.specs.Answer.{run_of, answer, run_text};
@@ -25,7 +27,7 @@ pub use text::TEXT_LENGTH;
 pub const SUMMARY_LENGTH: usize = 4;
 
 // What came of a sheet: its quantities, 0 where it was not read; the rows written; the outcome.
-#[derive(Drop)]
+#[derive(Clone, Copy)]
 pub struct Ended {
     pub n: usize,
     pub count: usize,

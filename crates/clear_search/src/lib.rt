@@ -1,4 +1,6 @@
 // Document 02, CR 2 and CR 6: what is asked before the search for a clear run, and the search.
+#![tactic(auto)]
+
 mod questions;
 mod search;
 

@@ -1,6 +1,8 @@
 // Document 02, CR 2 and CR 6: the first run of rows in which a ship has water enough for certain, all the way. A clearance is a
 // base and a weighed sum of the quantities; a row is certain where it is at least the need with each quantity at its low, or at
 // its high where its weight is negative.
+#![tactic(auto)]
+
 ghost use Rattle.std.specs.Prelude.{◌≡◌, length};
 ghost use Rattle.model.specs.Sheet.{result, refused_step, Gives};
 ghost use Rattle.model.specs.Passage as passage;
@@ -83,7 +85,7 @@ pub extern "C" fn planner_first_clear(
 }
 
 // What came of a passage, and the first run of certain rows among those that it wrote.
-#[derive(Drop)]
+#[derive(Clone, Copy)]
 pub struct RunFound {
     pub outcome: Outcome,
     pub found: Found,

@@ -1,6 +1,8 @@
 // Runs `run_and_find` of passages given as numbers: case A of document 01 and what it becomes with more steps, back, with
 // nine quantities, with too few places and with queries that are refused; and a quantity that rises through three rows.
 // Each line is what came of one; the file `stdout` beside src/ has what they must be.
+#![tactic(auto)]
+
 use clearance::{Found, Query, run_and_find};
 use libc::STDOUT_FILENO;
 use model::{Head, MOST_QUANTITIES, MOST_TERMS, Quantity, Sheet, Start, Term, Terms};

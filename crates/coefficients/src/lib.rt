@@ -1,4 +1,6 @@
 // Document 01, 'Coefficients': the orders of a step, each from those below it, in the table of coefficients that `products` reads.
+#![tactic(auto)]
+
 ghost use Rattle.std.specs.Prelude.{◌≡◌, ℕ, suc, ◌+◌, ◌^◌, ◌≤◌, ◌<◌, pos, nat_abs, ◌+ℤ◌, get_or, set};
 ghost use Rattle.model.specs.Sheet.{most_quantities, most, listed};
 ghost use Rattle.model.specs.Step.{most_degree};

@@ -1,5 +1,7 @@
 // Document 02, the conversion of stored sheets: a sheet of more steps than a passage may have comes out as two, the second of
 // which starts from the last row of the first.
+#![tactic(auto)]
+
 ghost use Rattle.std.specs.Prelude.{ℕ, ◌≤◌, ◌<◌, List, ◌≡◌, length, take};
 ghost use Rattle.model.specs.Sheet.{most_bytes, most_steps, stored_steps, passes, sheet_verdict_to};
 ghost use Rattle.model.specs.Reading.{read_sheet_to};

@@ -1,5 +1,7 @@
 // The conversion of stored sheets: one from standard input, what it comes out as to standard output. What cannot be read or
 // written is said on standard error.
+#![tactic(auto)]
+
 use answer::SHEET_LENGTH;
 use conversion::{CONVERTED_LENGTH, convert_input};
 use input::{Input, read_input};

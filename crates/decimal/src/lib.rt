@@ -2,6 +2,8 @@
 //
 // Each function `put_..` puts a text at a place and hands back the place that follows it. All but `put_front` ask that the
 // buffer has room for the text.
+#![tactic(auto)]
+
 ghost use Rattle.std.specs.Prelude.{◌+◌, ◌^◌, ◌≤◌, ◌<◌, [], ◌∷◌, ◌≡◌, pos, nat_abs, length};
 ghost use Rattle.tens.specs.Tens.{entries};
 ghost use Rattle.model.specs.Answer as answer;

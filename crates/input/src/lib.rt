@@ -1,18 +1,20 @@
 // A program's standard input, read into a buffer.
+#![tactic(auto)]
+
 ghost use Rattle.std.specs.Prelude.{◌≤◌, true, ◌≡◌, length};
 ghost use Rattle.input.specs.Counted.{counted, readable, turn_of};
 
 use libc::STDIN_FILENO;
 
 // What reading standard input came to: so many bytes, or a read that failed.
-#[derive(Drop)]
+#[derive(Clone, Copy)]
 pub enum Input {
     Bytes(usize),
     Unreadable,
 }
 
 // What one read came to: so many bytes more, the end of the input, or a failure.
-#[derive(Drop)]
+#[derive(Clone, Copy)]
 enum Turn {
     More(usize),
     End,

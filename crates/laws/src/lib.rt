@@ -1,1 +1,2 @@
 // No code: what is proved of `model`'s definitions (proofs/), and what the functions of a step ask (specs/).
+#![tactic(auto)]

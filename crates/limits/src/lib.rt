@@ -1,5 +1,7 @@
 // Document 01, 'The sheet': the range of each field, as data that the reading of a text and the verdict on numbers share;
 // and whether a number lies in one.
+#![tactic(auto)]
+
 ghost use Rattle.std.specs.Prelude.{◌≡◌, pos};
 ghost use Rattle.model.specs.Sheet as model;
 ghost use Rattle.model.specs.Sheet.{from◌to◌};

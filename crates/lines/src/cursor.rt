@@ -10,34 +10,34 @@ use model::MOST_DIGITS;
 use tens::power_of_ten;
 
 // A place in a text: how many bytes stand before it.
-#[derive(Drop)]
+#[derive(Clone, Copy)]
 pub struct Cursor {
     pub at: usize,
 }
 
 // The byte at a cursor, or the end of the text.
-#[derive(Drop)]
+#[derive(Clone, Copy)]
 pub enum NextByte {
     Byte(u8, Cursor),
     End,
 }
 
 // The digit at a cursor, or anything else there.
-#[derive(Drop)]
+#[derive(Clone, Copy)]
 pub enum Digit {
     Value(u64, Cursor),
     Other,
 }
 
 // The number that is spelled at a cursor, or a misspelling.
-#[derive(Drop)]
+#[derive(Clone, Copy)]
 pub enum Spelled {
     Number(i64, Cursor),
     Wrong,
 }
 
 // The place after a text that stands at a cursor, or another text there.
-#[derive(Drop)]
+#[derive(Clone, Copy)]
 pub enum After {
     Here(Cursor),
     Elsewhere,

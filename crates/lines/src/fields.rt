@@ -9,28 +9,28 @@ use crate::cursor::{Cursor, Spelled};
 use model::{Limits, Refusal};
 
 // A number that may be negative, and the cursor after its line.
-#[derive(Drop)]
+#[derive(Clone, Copy)]
 pub struct Whole {
     pub value: i64,
     pub next: Cursor,
 }
 
 // What such a line holds, or its refusal.
-#[derive(Drop)]
+#[derive(Clone, Copy)]
 pub enum WholeLine {
     Holds(Whole),
     Fault(Refusal),
 }
 
 // A natural number, and the cursor after its line.
-#[derive(Drop)]
+#[derive(Clone, Copy)]
 pub struct Natural {
     pub value: u64,
     pub next: Cursor,
 }
 
 // What such a line holds, or its refusal.
-#[derive(Drop)]
+#[derive(Clone, Copy)]
 pub enum NaturalLine {
     Holds(Natural),
     Fault(Refusal),

@@ -1,5 +1,7 @@
 // Document 01, 'The sheet': lines `key=value`, each ended by one line feed and read from the place where the last one
 // ended.
+#![tactic(auto)]
+
 mod cursor;
 mod fields;
 

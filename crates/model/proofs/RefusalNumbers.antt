@@ -7,7 +7,7 @@ use lib.IntN.{pos, neg_ℤ}
 use lib.Signed.{non_neg}
 use Rattle.model.specs.Sheet.{number}
 use Rattle.model.specs.declared.Refusal.{Refusal}
-use Rattle.model.specs.declared.Refusal.TheVariants.{Oversized, Misspelt, OutOfRange, NoReading, TooFewPlaces, TooLarge, StepTooLong, Intolerable, QueryOutOfRange, RowOutOfRange, ShipEntered, ShipNotEntered, BookFull}
+use Rattle.model.specs.declared.Refusal.TheVariants.{Oversized, Misspelt, OutOfRange, NoReading, TooFewPlaces, TooLarge, StepTooLong, Intolerable, QueryOutOfRange, RowOutOfRange}
 
 number_bounds : (r : Refusal) → (1 ≤ number r) × (number r < 10 ^ 2)
 unfolding number
@@ -21,9 +21,6 @@ number_bounds StepTooLong = (omega arith, omega arith)
 number_bounds Intolerable = (omega arith, omega arith)
 number_bounds QueryOutOfRange = (omega arith, omega arith)
 number_bounds RowOutOfRange = (omega arith, omega arith)
-number_bounds ShipEntered = (omega arith, omega arith)
-number_bounds ShipNotEntered = (omega arith, omega arith)
-number_bounds BookFull = (omega arith, omega arith)
 
 pub number_from_one : (r : Refusal) → 1 ≤ number r
 number_from_one r = (number_bounds r).0

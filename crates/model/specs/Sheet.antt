@@ -12,7 +12,7 @@ use Rattle.model.specs.declared.Term.{Term}
 use Rattle.model.specs.declared.Terms.{Terms}
 use Rattle.model.specs.declared.Sheet.{Sheet}
 use Rattle.model.specs.declared.Refusal.{Refusal}
-use Rattle.model.specs.declared.Refusal.TheVariants.{Oversized, Misspelt, OutOfRange, NoReading, TooFewPlaces, TooLarge, StepTooLong, Intolerable, QueryOutOfRange, RowOutOfRange, ShipEntered, ShipNotEntered, BookFull}
+use Rattle.model.specs.declared.Refusal.TheVariants.{Oversized, Misspelt, OutOfRange, NoReading, TooFewPlaces, TooLarge, StepTooLong, Intolerable, QueryOutOfRange, RowOutOfRange}
 use Rattle.model.specs.declared.Outcome.{Outcome}
 use Rattle.model.specs.declared.Outcome.TheVariants.{Accepted, Refused}
 
@@ -68,9 +68,6 @@ number StepTooLong = 7
 number Intolerable = 8
 number QueryOutOfRange = 9
 number RowOutOfRange = 10
-number ShipEntered = 11
-number ShipNotEntered = 12
-number BookFull = 13
 
 -- what is printed as `result`
 unfoldable pub result : Outcome → ℕ

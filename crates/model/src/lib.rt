@@ -1,5 +1,7 @@
 // The records of document 01: a sheet as numbers, and what comes of one, with the numbers of the refusals. specs/ says over
 // these what document 01 means; the code that is proved against it is in the crates above.
+#![tactic(auto)]
+
 ghost use Rattle.std.specs.Prelude.{◌≡◌, pos, neg_ℤ};
 ghost use Rattle.model.specs.Sheet as sheet;
 
@@ -37,14 +39,14 @@ pub const MOST_RATIO: u64 = 8388608;
 pub const MOST_DEGREE: usize = 28;
 
 // The numbers low .. high.
-#[derive(Drop)]
+#[derive(Clone, Copy)]
 pub struct Limits {
     pub low: i64,
     pub high: i64,
 }
 
 // The numbers above the quantities.
-#[derive(Drop)]
+#[derive(Clone, Copy)]
 pub struct Head {
     pub n: usize,
     pub steps: usize,
@@ -54,14 +56,14 @@ pub struct Head {
 }
 
 // A start in units, or no reading.
-#[derive(Drop)]
+#[derive(Clone, Copy)]
 pub enum Start {
     Reading(i64),
     Missing,
 }
 
 // A quantity's start and the radius of that start.
-#[derive(Drop)]
+#[derive(Clone, Copy)]
 pub struct Quantity {
     pub start: Start,
     pub radius: u64,
@@ -69,7 +71,7 @@ pub struct Quantity {
 
 // A term adds coef/s times its factors to the rate of the quantity `to`. Quantities are numbered from 1, and a factor 0
 // is no factor.
-#[derive(Drop)]
+#[derive(Clone, Copy)]
 pub struct Term {
     pub to: usize,
     pub coef: i64,
@@ -78,14 +80,14 @@ pub struct Term {
 }
 
 // The first `count` terms of the list. What stands past them means nothing.
-#[derive(Drop)]
+#[derive(Clone, Copy)]
 pub struct Terms {
     pub count: usize,
     pub list: [Term; MOST_TERMS],
 }
 
 // A sheet. What stands in `quantities` past the head's n means nothing.
-#[derive(Drop)]
+#[derive(Clone, Copy)]
 pub struct Sheet {
     pub head: Head,
     pub quantities: [Quantity; MOST_QUANTITIES],
@@ -93,35 +95,35 @@ pub struct Sheet {
 }
 
 // A value with its radius, in units.
-#[derive(Drop)]
+#[derive(Clone, Copy)]
 pub struct Ball {
     pub value: i64,
     pub radius: u64,
 }
 
 // The values and radii of up to 8 quantities.
-#[derive(Drop)]
+#[derive(Clone, Copy)]
 pub struct Balls {
     pub values: [i64; MOST_QUANTITIES],
     pub radii: [u64; MOST_QUANTITIES],
 }
 
 // Two values in units, between which a quantity lies.
-#[derive(Drop)]
+#[derive(Clone, Copy)]
 pub struct Span {
     pub low: i64,
     pub high: i64,
 }
 
 // The lows and highs of up to 8 quantities.
-#[derive(Drop)]
+#[derive(Clone, Copy)]
 pub struct Spans {
     pub lows: [i64; MOST_QUANTITIES],
     pub highs: [i64; MOST_QUANTITIES],
 }
 
 // Every refusal of documents 01 and 02, in the order of the numbers.
-#[derive(Drop)]
+#[derive(Clone, Copy)]
 pub enum Refusal {
     Oversized,
     Misspelt,
@@ -133,26 +135,24 @@ pub enum Refusal {
     Intolerable,
     QueryOutOfRange,
     RowOutOfRange,
-    ShipEntered,
-    ShipNotEntered,
-    BookFull,
 }
 
 // What comes of a sheet or a passage. A refusal has the number of the refused step, or 0 before step 1.
-#[derive(Drop)]
+#[derive(Clone, Copy)]
 pub enum Outcome {
     Accepted,
     Refused(Refusal, usize),
 }
 
 // What reading a sheet gives: where it is refused, the sheet of zeros.
-#[derive(Drop)]
+#[derive(Clone, Copy)]
 pub struct ReadSheet {
     pub outcome: Outcome,
     pub sheet: Sheet,
 }
 
 // What stands past the terms that are counted.
+#[tactic(auto, unfolding(crate::specs::Sheet::no_term))]
 pub fn no_term() -> Term
     ensures { result ≡ sheet.no_term }
 {
@@ -165,6 +165,7 @@ pub fn no_term() -> Term
 }
 
 // A refusal's number in documents 01 and 02.
+#[tactic(auto, unfolding(crate::specs::Sheet::number))]
 pub fn number(refusal: Refusal) -> u64
     ensures { result ≡ sheet.number refusal }
 {
@@ -179,9 +180,6 @@ pub fn number(refusal: Refusal) -> u64
         Refusal::Intolerable => 8,
         Refusal::QueryOutOfRange => 9,
         Refusal::RowOutOfRange => 10,
-        Refusal::ShipEntered => 11,
-        Refusal::ShipNotEntered => 12,
-        Refusal::BookFull => 13,
     }
 }
 
@@ -193,6 +191,7 @@ pub fn minus_number(refusal: Refusal) -> i64
 }
 
 // What is printed as `result`.
+#[tactic(auto, unfolding(crate::specs::Sheet::result))]
 pub fn result(outcome: Outcome) -> u64
     ensures { result ≡ sheet.result outcome }
 {
@@ -203,6 +202,7 @@ pub fn result(outcome: Outcome) -> u64
 }
 
 // What is printed as `at`.
+#[tactic(auto, unfolding(crate::specs::Sheet::refused_step))]
 pub fn refused_step(outcome: Outcome) -> u64
     ensures { result ≡ sheet.refused_step outcome }
 {

@@ -1,4 +1,6 @@
 // Document 01, 'New row', and document 02's lows and highs: the sums of the orders, from a table of coefficients.
+#![tactic(auto)]
+
 ghost use Rattle.std.specs.Prelude.{◌≡◌, ◌^◌, ◌≤◌, ◌<◌};
 ghost use Rattle.ranges.specs.Range.{tabulate};
 ghost use Rattle.model.specs.Step as rule;

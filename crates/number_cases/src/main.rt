@@ -2,6 +2,8 @@
 // of digits. A line `number=` is a number as it is printed; the line below it is what is read from that very line: `read=`
 // and the number again, or `unread`, since a sheet's numbers have at most nine digits. The file `stdout` beside src/ has
 // what they must be.
+#![tactic(auto)]
+
 ghost use Rattle.std.specs.Prelude.{◌^◌, ◌≤◌, ◌<◌, nat_abs, length};
 ghost use Rattle.printing.specs.Pieces.{Room, line_of};
 

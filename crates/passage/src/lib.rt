@@ -1,4 +1,6 @@
 // A passage given as numbers, run into a lent buffer: document 01, questions 3 to 6.
+#![tactic(auto)]
+
 ghost use Rattle.std.specs.Prelude.{◌≡◌, ◌≤◌, length};
 ghost use Rattle.model.specs.Sheet.{result, refused_step, Gives, most_quantities, listed, start_value, starts_of};
 ghost use Rattle.model.specs.Rows.{balls_of, laid_out, written};

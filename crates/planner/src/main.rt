@@ -1,5 +1,7 @@
 // The planner: one sheet from standard input, its answer to standard output. What cannot be read or written is said on
 // standard error.
+#![tactic(auto)]
+
 use answer::{SHEET_LENGTH, TEXT_LENGTH, answer_input};
 use input::{Input, read_input};
 use libc::{STDERR_FILENO, STDOUT_FILENO};

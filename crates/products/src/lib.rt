@@ -3,6 +3,8 @@
 // A table of coefficients has a place for each of 8 quantities and orders 0 to 28, the orders of one quantity side by
 // side. It keeps c and |c| + e: the radius of a product is then |c|+e times |c'|+e' less |c×c'|, two products in place of
 // four.
+#![tactic(auto)]
+
 ghost use Rattle.std.specs.Prelude.{◌≡◌, ◌+◌, ◌-◌, ◌*◌, ◌^◌, ◌≤◌, ◌<◌, nat_abs, ◌+ℤ◌, ◌*ℤ◌};
 ghost use Rattle.rounding.specs.Rounding as round;
 ghost use Rattle.model.specs.Sheet.{scale, most_quantities};

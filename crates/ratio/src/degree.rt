@@ -8,7 +8,7 @@ use model::SCALE;
 use rounding::up;
 
 // The degree of a step and its tail.
-#[derive(Drop)]
+#[derive(Clone, Copy)]
 pub struct Truncation {
     pub degree: usize,
     pub tail: u64,

@@ -1,4 +1,6 @@
 // Document 01, 'Ratio and tail': G, the sizes and the ratio, the degree and its tail.
+#![tactic(auto)]
+
 mod degree;
 mod sizes;
 

@@ -1,4 +1,6 @@
 // Document 01, 'One rounded step': the two roundings, and the magnitude that they work on.
+#![tactic(auto)]
+
 ghost use Rattle.std.specs.Prelude.{◌≡◌, ◌+◌, ◌*◌, ◌<◌, ◌≤◌, ◌^◌, pos, neg_ℤ, nat_abs};
 ghost use Rattle.rounding.specs.Rounding as rounding;
 

@@ -1,5 +1,7 @@
 // Runs case I of document 01, and the two roundings at the ends of their ranges. Each line is one
 // rounding and its result; the file `stdout` beside src/ has what they must be.
+#![tactic(auto)]
+
 ghost use Rattle.std.specs.Prelude.{◌<◌};
 
 use libc::STDOUT_FILENO;

@@ -1,4 +1,6 @@
 // Rows in a lent buffer: nothing else in the code knows where a row's numbers stand. Rows and quantities are counted from 0.
+#![tactic(auto)]
+
 ghost use Rattle.std.specs.Prelude.{◌≡◌, ◌≤◌, ◌<◌, ◌++◌, pos, get_or};
 ghost use Rattle.std.proofs.lemmas.List.Edits.{sets};
 ghost use Rattle.ranges.specs.Range.{tabulate};

@@ -1,4 +1,6 @@
 // Document 01, questions 1 and 2: from the bytes of a sheet to the sheet, or to its first refusal and the sheet of zeros.
+#![tactic(auto)]
+
 ghost use Rattle.std.specs.Prelude.{◌≡◌, ◌≤◌};
 ghost use Rattle.model.specs.Reading as model;
 ghost use Rattle.model.specs.Sheet.{most_quantities, stored_steps, result, Gives, no_head};

@@ -1,4 +1,6 @@
 // Document 01, question 2: the lines of a sheet below its head, the quantities and then the terms.
+#![tactic(auto)]
+
 ghost use Rattle.std.specs.Prelude.{◌≡◌, ◌≤◌};
 ghost use Rattle.model.specs.Reading as model;
 ghost use Rattle.model.specs.Sheet.{most_quantities, no_quantity};
@@ -9,14 +11,14 @@ use lines::{After, Cursor, NaturalLine, WholeLine};
 use model::{MOST_QUANTITIES, MOST_TERMS, Outcome, Quantity, Refusal, Start, Term, Terms, no_term};
 
 // What the lines of one quantity hold, or their first refusal.
-#[derive(Drop)]
+#[derive(Clone, Copy)]
 enum QuantityLines {
     Hold(Quantity, Cursor),
     Fault(Refusal),
 }
 
 // The quantities read so far, with 0 past them, and the first refusal.
-#[derive(Drop)]
+#[derive(Clone, Copy)]
 pub struct ReadQuantities {
     pub outcome: Outcome,
     pub quantities: [Quantity; MOST_QUANTITIES],
@@ -24,14 +26,14 @@ pub struct ReadQuantities {
 }
 
 // What the lines of one term hold, or their first refusal.
-#[derive(Drop)]
+#[derive(Clone, Copy)]
 enum TermLines {
     Hold(Term, Cursor),
     Fault(Refusal),
 }
 
 // The terms read so far, with 0 past them, and the first refusal.
-#[derive(Drop)]
+#[derive(Clone, Copy)]
 pub struct ReadTerms {
     pub outcome: Outcome,
     pub terms: Terms,

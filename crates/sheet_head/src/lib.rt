@@ -1,4 +1,6 @@
 // Document 01, question 2: the lines of a sheet above its quantities.
+#![tactic(auto)]
+
 ghost use Rattle.std.specs.Prelude.{◌≡◌};
 ghost use Rattle.model.specs.Sheet.{no_head};
 ghost use Rattle.model.specs.Reading as model;
@@ -10,7 +12,7 @@ use lines::{Cursor, NaturalLine, Spelled, Whole, WholeLine};
 use model::{Head, Refusal};
 
 // What the lines above the quantities hold, or their first refusal.
-#[derive(Drop)]
+#[derive(Clone, Copy)]
 pub enum HeadLines {
     Hold(Head, Cursor),
     Fault(Refusal),

@@ -1,4 +1,6 @@
 // Document 02, the conversion of stored sheets: the two parts of a sheet of more steps than a passage may have, as numbers.
+#![tactic(auto)]
+
 ghost use Rattle.std.specs.Prelude.{◌≤◌, ◌<◌, map, ◌≡◌};
 ghost use Rattle.model.specs.Sheet.{most_quantities, most_steps, quantities_held};
 ghost use Rattle.model.specs.Rows.{row_in, balls_of, laid_out};

@@ -2,6 +2,8 @@
 //
 // The lines are put into a buffer of their own, which has room for the longest sheet, and from there as much of them as fits
 // into the text. Each function hands back the place that follows what it put, as those of `decimal` do.
+#![tactic(auto)]
+
 ghost use Rattle.std.specs.Prelude.{ℕ, ◌+◌, ◌*◌, ◌^◌, ◌≤◌, ◌<◌, ◌≡◌, length, get_or};
 ghost use mathlib.Core.List.{flatten};
 ghost use Rattle.ranges.specs.Range.{tabulate};

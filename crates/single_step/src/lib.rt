@@ -1,4 +1,6 @@
 // One step of a passage by itself: document 01, questions 3 to 6.
+#![tactic(auto)]
+
 ghost use Rattle.std.specs.Prelude.{◌≡◌};
 ghost use Rattle.model.specs.Sheet.{terms_of};
 ghost use Rattle.model.specs.Rows.{balls_of};

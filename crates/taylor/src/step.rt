@@ -18,14 +18,14 @@ use ratio::{SUMS, Truncation, largest_reach, ratio, truncate};
 use rounding::magnitude;
 
 // What a step comes to: a row's degree, or the refusal of the first question that is answered no.
-#[derive(Drop)]
+#[derive(Clone, Copy)]
 pub enum Advance {
     Moves(usize),
     Stops(Refusal),
 }
 
 // A row's values and radii, its lows and highs.
-#[derive(Drop)]
+#[derive(Clone, Copy)]
 pub struct Numbers {
     pub balls: Balls,
     pub spans: Spans,
@@ -33,7 +33,7 @@ pub struct Numbers {
 
 // What a step comes to, and the numbers of its row. A refused step leaves the values and radii that it started from, and
 // no lows and highs.
-#[derive(Drop)]
+#[derive(Clone, Copy)]
 pub struct Stepped {
     pub advance: Advance,
     pub numbers: Numbers,

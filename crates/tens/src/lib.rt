@@ -1,4 +1,6 @@
 // Document 02, CR 3: the powers of ten by which numbers are read and printed, all from one table.
+#![tactic(auto)]
+
 ghost use Rattle.std.specs.Prelude.{◌^◌, ◌<◌, ◌≡◌};
 ghost use Rattle.tens.specs.Tens.{entries, PowersOfTen};
 

@@ -1,4 +1,6 @@
 // Document 02, 'Like terms': like terms are added, in the place of the earliest, and a sum of 0 drops out.
+#![tactic(auto)]
+
 ghost use Rattle.std.specs.Prelude.{◌≡◌, ◌&&◌, ◌+◌, ◌^◌, ◌≤◌, ◌<◌, nat_abs, ◌+ℤ◌, eqb};
 ghost use Rattle.model.specs.Sheet.{most_terms, listed};
 ghost use Rattle.model.specs.LikeTerms as rule;

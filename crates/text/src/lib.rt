@@ -2,6 +2,8 @@
 //
 // A row's lines are put into a buffer of their own, which has room for the longest, and from there as much of them as fits
 // into the text. Each function hands back the place that follows what it put, as those of `decimal` do.
+#![tactic(auto)]
+
 ghost use Rattle.std.specs.Prelude.{suc, ◌+◌, ◌*◌, ◌^◌, ◌≤◌, ◌<◌, [], ◌∷◌, ◌++◌, pos, nat_abs, length};
 ghost use Rattle.model.specs.Sheet.{most, most_steps, refused_step};
 ghost use Rattle.enclosure.specs.RowRange.{most_value, most_span, Printable, RowsPrintable};

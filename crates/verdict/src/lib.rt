@@ -1,4 +1,6 @@
 // Document 01, question 3: a sheet given as numbers meets refusals 3 and 4 in the order of its fields.
+#![tactic(auto)]
+
 ghost use Rattle.std.specs.Prelude.{◌≡◌, ◌≤◌};
 ghost use Rattle.model.specs.Sheet.{most_quantities, most_steps, verdict_number, verdict_outcome, Gives, ask, head_verdict, start_verdict, quantity_verdict, quantities_verdict, term_verdict, terms_verdict, sheet_verdict};
 

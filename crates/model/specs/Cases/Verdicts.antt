@@ -3,7 +3,7 @@ use Rattle.std.specs.Prelude.{List, [], ◌∷◌, pos, neg_ℤ, replicate}
 use Rattle.model.specs.Cases.Forms.{Case, judged, verdict_to, numbered, spans}
 use Rattle.model.specs.Cases.Sheets.{reading, missing, term, given, lone}
 use Rattle.model.specs.Sheet.{most_steps, stored_steps, within, n_limits, steps_limits, step_within, tail_limits, tol_limits, start_limits, radius_limits, terms_limits, to_limits, coef_limits, first_limits, second_limits}
-use Rattle.model.specs.declared.Refusal.TheVariants.{QueryOutOfRange, RowOutOfRange, ShipEntered, ShipNotEntered, BookFull}
+use Rattle.model.specs.declared.Refusal.TheVariants.{QueryOutOfRange, RowOutOfRange}
 
 -- ranges with their ends, and sheets as numbers with their refusal
 unfoldable pub verdicts : List Case
@@ -56,10 +56,7 @@ verdicts =
     -- a stored sheet's steps; a verdict as an outcome and as a number
     ∷ verdict_to 400 (given 400 (pos 1) 1 (reading 0 0 ∷ []) 0) 0
     ∷ verdict_to 400 (given 401 (pos 1) 1 (reading 0 0 ∷ []) 0) 3
-    -- the numbers of the refusals that no sheet meets
+    -- the numbers of the refusals of a question about rows
     ∷ numbered QueryOutOfRange 9
     ∷ numbered RowOutOfRange 10
-    ∷ numbered ShipEntered 11
-    ∷ numbered ShipNotEntered 12
-    ∷ numbered BookFull 13
     ∷ []
