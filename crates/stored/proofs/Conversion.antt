@@ -38,9 +38,9 @@ use Rattle.stored.proofs.Parts.{second_quantity, second_starts, first_refusal_is
 -- ---- the parts of a sheet are sheets
 
 -- a head that is in range, with so many steps
-with_steps : {high : ℕ} (other count : ℕ) (head : Head) → 1 ≤ count → count ≤ other → HeadInRange high head → HeadInRange other (with_steps count head)
+with_steps_lem : {high : ℕ} (other count : ℕ) (head : Head) → 1 ≤ count → count ≤ other → HeadInRange high head → HeadInRange other (with_steps count head)
 unfolding with_steps in_range ask steps_limits
-with_steps other count head low fits range =
+with_steps_lem other count head low fits range =
     record { n = range.n; steps = rw (natural_passes {low = 1} {high = other} count low fits); step = range.step; tail = range.tail; tol = range.tol }
 
 -- values and radii that are small can be started from
@@ -56,14 +56,14 @@ module _ (high other count : ℕ) (sheet : Sheet) (passed : sheet_verdict_to hig
   pub first_passes : 1 ≤ count → count ≤ other → sheet_verdict_to other (first_part count sheet) ≡ passes
   unfolding first_part with_steps
   first_passes some fits =
-      in_range_passes other (first_part count sheet) (record { head = with_steps other count sheet.head some fits ranges.head; quantity = ranges.quantity; terms = ranges.terms; term = ranges.term })
+      in_range_passes other (first_part count sheet) (record { head = with_steps_lem other count sheet.head some fits ranges.head; quantity = ranges.quantity; terms = ranges.terms; term = ranges.term })
 
   -- the second by its values and radii, which are small, and by its steps, which are not too many
   pub second_passes : (balls : List Ball) → count < sheet.head.steps → high ≤ count + other → length balls ≡ sheet.head.n → small balls ≡ true → sheet_verdict_to other (second_part count sheet balls) ≡ passes
   unfolding second_part with_steps steps_limits
   second_passes balls more left wide is_small =
       in_range_passes other (second_part count sheet balls) (record {
-        head = with_steps other (sheet.head.steps - count) sheet.head (omega arith) (omega (arith, in_range_lem sheet.head.steps ranges.head.steps)) ranges.head;
+        head = with_steps_lem other (sheet.head.steps - count) sheet.head (omega arith) (omega (arith, in_range_lem sheet.head.steps ranges.head.steps)) ranges.head;
         quantity = λ i h. let inside : i < length balls = omega (arith, wide) in rw (second_quantity balls i inside) (small_passes (get_or balls i no_ball) (each_small balls is_small i inside));
         terms = ranges.terms;
         term = ranges.term;

@@ -55,9 +55,9 @@ pub record Quantities (n : ℕ) (row : Row) : Type 0 where
   pub balls : length row.balls ≡ n
   pub spans : length row.spans ≡ n
 
-row_parts : (row : Row) {n : ℕ} → Quantities n row → Parts n parts (row_parts row)
+row_parts_lem : (row : Row) {n : ℕ} → Quantities n row → Parts n parts (row_parts row)
 unfolding row_parts
-row_parts row h =
+row_parts_lem row h =
     part_first (length-map row.balls _ ∙ h.balls) (part_first (length-map row.balls _ ∙ h.balls) (part_first (length-map row.spans _ ∙ h.spans) (part_first (length-map row.spans _ ∙ h.spans) no_part)))
 
 -- ---- rows of n quantities
@@ -69,7 +69,7 @@ Wide n = Each (Quantities n)
 
 row_length : (row : Row) {n : ℕ} → Quantities n row → length (row_places row) ≡ width n
 unfolding row_places width
-row_length row h = omega (arith, parts_length (row_parts row h))
+row_length row h = omega (arith, parts_length (row_parts_lem row h))
 
 pub places_length : {n : ℕ} {rows : List Row} → Wide n rows → length (places rows) ≡ length rows * width n
 unfolding places
@@ -99,7 +99,7 @@ module _ {n : ℕ} {rows : List Row} (w : Wide n rows) (buffer : List ℤ) (j : 
   unfolding written row_places width
   part_written p i l k =
       let place : part_place n j p i ≡ degree_place n j + suc (p * n + i) = omega arith in
-      rw place (row_place w (drop (length (places rows)) buffer) j (suc (p * n + i)) h (omega (arith, mul-le-mul_right n l, suc-mul p n)) ∙ part_entry (row_parts (get_or rows j no_row) (each_at no_row w j h)) p i l k)
+      rw place (row_place w (drop (length (places rows)) buffer) j (suc (p * n + i)) h (omega (arith, mul-le-mul_right n l, suc-mul p n)) ∙ part_entry (row_parts_lem (get_or rows j no_row) (each_at no_row w j h)) p i l k)
 
   pub value_written : (i : ℕ) → i < n → get_or (written rows buffer) (part_place n j values_part i) (pos 0) ≡ (get_or (get_or rows j no_row).balls i no_ball).value
   unfolding row_parts no_ball
