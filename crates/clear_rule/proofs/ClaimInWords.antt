@@ -23,7 +23,7 @@ use Rattle.model.specs.declared.Refusal.TheVariants.{OutOfRange, QueryOutOfRange
 use Rattle.model.proofs.RefusalNumbers.{minus_not_natural}
 use Rattle.model.specs.declared.Sheet.{Sheet}
 use Rattle.model.specs.declared.Term.{Term}
-use Rattle.ranges.proofs.Ranges.{length_tabulate, get_d_tabulate}
+use Rattle.ranges.proofs.Ranges.{length_tabulate, get_or_tabulate}
 use Rattle.laws.proofs.Passages.RowPlaces.{Quantities}
 use Rattle.clear_rule.specs.Clearance.{certain, found_number}
 use Rattle.clear_rule.specs.Claim.{Answers, Clears, ClearsAllTheWay, EachClear, ClearOf, ClearFrom, Wrote, Said, SaidBy, SaidOf}
@@ -36,7 +36,7 @@ use Rattle.clear_rule.proofs.ClearSpans.{Between, clear_spans, clear_from_spans}
 wide_rows : (n count : ℕ) (buffer : List ℤ) (j : ℕ) → j < length (rows_in n count buffer) → Quantities n (get_or (rows_in n count buffer) j no_row)
 unfolding rows_in row_in
 wide_rows n count buffer j h =
-    let row : get_or (rows_in n count buffer) j no_row ≡ row_in n buffer j = get_d_tabulate count (row_in n buffer) no_row j (omega (arith, length_rows n count buffer)) in
+    let row : get_or (rows_in n count buffer) j no_row ≡ row_in n buffer j = get_or_tabulate count (row_in n buffer) no_row j (omega (arith, length_rows n count buffer)) in
     record { balls = ap (λ (row : Row). length row.balls) row ∙ length_tabulate n _; spans = ap (λ (row : Row). length row.spans) row ∙ length_tabulate n _ }
 
 module _ (sheet : Sheet) (base : ℤ) (run : ℕ) (found : List ℤ → ℤ → Found) where

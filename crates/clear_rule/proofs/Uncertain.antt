@@ -13,7 +13,7 @@ use Rattle.enclosure.specs.Exact.{State}
 use Rattle.model.specs.Step.{no_span, Row}
 use Rattle.enclosure.specs.Trust.{LiesBetween}
 use Rattle.model.specs.declared.Span.{Span}
-use Rattle.ranges.proofs.Ranges.{sum_ℤ_equal, sum_ℤ_factor, length_tabulate, get_d_tabulate}
+use Rattle.ranges.proofs.Ranges.{sum_ℤ_equal, sum_ℤ_factor, length_tabulate, get_or_tabulate}
 use Rattle.laws.proofs.Bounds.Reach.{scale_positive}
 use Rattle.clear_rule.specs.Clearance.{weight, end_for, assured, certain}
 use Rattle.clear_rule.specs.Claim.{Clears}
@@ -56,7 +56,7 @@ worst_lies query row ordered =
     }
   where
     number_at : (i : ℕ) → i < length row.spans → pos scale *ℤ get_or (worst query row).numerators i (pos 0) ≡ end_of query row i *ℤ pos scale
-    number_at i h = ap (λ (z : ℤ). pos scale *ℤ z) (get_d_tabulate (length row.spans) (end_of query row) (pos 0) i h) ∙ *ℤ_comm (pos scale) (end_of query row i)
+    number_at i h = ap (λ (z : ℤ). pos scale *ℤ z) (get_or_tabulate (length row.spans) (end_of query row) (pos 0) i h) ∙ *ℤ_comm (pos scale) (end_of query row i)
 
 -- ---- its clearance is what the row assures
 
@@ -77,7 +77,7 @@ comes_to query row =
     each : (i : ℕ) → i < n → weight query i *ℤ (pos scale *ℤ get_or (worst query row).numerators i (pos 0)) ≡ pos scale *ℤ (weight query i *ℤ end_of query row i)
     each i h =
         mul_left_comm_ℤ (weight query i) (pos scale) _
-        ∙ ap (λ (z : ℤ). pos scale *ℤ (weight query i *ℤ z)) (get_d_tabulate n _ (pos 0) i h)
+        ∙ ap (λ (z : ℤ). pos scale *ℤ (weight query i *ℤ z)) (get_or_tabulate n _ (pos 0) i h)
 
 -- ---- and so it does not clear where the row is not certain
 

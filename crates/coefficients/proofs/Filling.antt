@@ -13,7 +13,7 @@ use Rattle.model.specs.Step.{brings_ℤ, Coefficients, most_degree, no_ball, rea
 use Rattle.laws.specs.Bounds.{InBounds}
 use Rattle.model.specs.declared.Ball.{Ball}
 use Rattle.model.specs.declared.Term.{Term}
-use Rattle.ranges.proofs.Ranges.{before_or_past, get_d_tabulate, tabulate_equal}
+use Rattle.ranges.proofs.Ranges.{before_or_past, get_or_tabulate, tabulate_equal}
 use Rattle.laws.proofs.Steps.Tables.{Grows, coefficients_grow}
 use Rattle.laws.proofs.Bounds.Invariant.{factor_bounded}
 use Rattle.laws.proofs.Bounds.WorkingNumbers.{brought_fits}
@@ -64,7 +64,7 @@ start_filled terms H {n} {values} {reaches} usable = record { usable = usable; e
     entries zero i h l =
         let grows = coefficients_grow terms H (start_in n values reaches) in
         ⊎_elim
-        (λ (m : i < n). sym (grows.starts i ∙ get_d_tabulate n (ball_at values reaches 0) no_ball i m))
+        (λ (m : i < n). sym (grows.starts i ∙ get_or_tabulate n (ball_at values reaches 0) no_ball i m))
         (λ (p : n ≤ i). usable.past 0 i (omega arith) p l ∙ sym (grows.past 0 0 i h (rw (length_start n values reaches) p)))
         (before_or_past i n)
     entries (suc order) i h l = absurd (omega arith)

@@ -15,7 +15,7 @@ use Rattle.model.specs.declared.Ball.{Ball}
 use Rattle.model.specs.declared.Span.{Span}
 use Rattle.model.specs.declared.Sheet.{Sheet}
 use Rattle.model.specs.declared.Term.{Term}
-use Rattle.ranges.proofs.Ranges.{length_tabulate, get_d_tabulate}
+use Rattle.ranges.proofs.Ranges.{length_tabulate, get_or_tabulate}
 use Rattle.enclosure.specs.Exact.{State, exact_sum}
 use Rattle.enclosure.specs.Trust.{LiesWithin, LiesBetween, state_after, Trusted, TrustedOf, start_of, Spanned, SpannedOf, Leaves}
 
@@ -106,7 +106,7 @@ module _ (n count : ℕ) (buffer : List ℤ) (j : ℕ) (h : j < count) where
 
   row_is : row ≡ row_in n buffer j
   unfolding rows_in
-  row_is = get_d_tabulate count (row_in n buffer) no_row j h
+  row_is = get_or_tabulate count (row_in n buffer) no_row j h
 
   degree_is : row.degree ≡ degree_at n buffer j
   unfolding row_in
@@ -122,25 +122,25 @@ module _ (n count : ℕ) (buffer : List ℤ) (j : ℕ) (h : j < count) where
 
   value_is : (i : ℕ) → i < n → (get_or row.balls i no_ball).value ≡ value_at n buffer j i
   unfolding row_in
-  value_is i l = ap (λ (row : Row). (get_or row.balls i no_ball).value) row_is ∙ ap (λ (ball : Ball). ball.value) (get_d_tabulate n _ no_ball i l)
+  value_is i l = ap (λ (row : Row). (get_or row.balls i no_ball).value) row_is ∙ ap (λ (ball : Ball). ball.value) (get_or_tabulate n _ no_ball i l)
 
   radius_is : (i : ℕ) → i < n → (get_or row.balls i no_ball).radius ≡ radius_at n buffer j i
   unfolding row_in
-  radius_is i l = ap (λ (row : Row). (get_or row.balls i no_ball).radius) row_is ∙ ap (λ (ball : Ball). ball.radius) (get_d_tabulate n _ no_ball i l)
+  radius_is i l = ap (λ (row : Row). (get_or row.balls i no_ball).radius) row_is ∙ ap (λ (ball : Ball). ball.radius) (get_or_tabulate n _ no_ball i l)
 
   low_is : (i : ℕ) → i < n → (get_or row.spans i no_span).low ≡ low_at n buffer j i
   unfolding row_in
-  low_is i l = ap (λ (row : Row). (get_or row.spans i no_span).low) row_is ∙ ap (λ (span : Span). span.low) (get_d_tabulate n _ no_span i l)
+  low_is i l = ap (λ (row : Row). (get_or row.spans i no_span).low) row_is ∙ ap (λ (span : Span). span.low) (get_or_tabulate n _ no_span i l)
 
   high_is : (i : ℕ) → i < n → (get_or row.spans i no_span).high ≡ high_at n buffer j i
   unfolding row_in
-  high_is i l = ap (λ (row : Row). (get_or row.spans i no_span).high) row_is ∙ ap (λ (span : Span). span.high) (get_d_tabulate n _ no_span i l)
+  high_is i l = ap (λ (row : Row). (get_or row.spans i no_span).high) row_is ∙ ap (λ (span : Span). span.high) (get_or_tabulate n _ no_span i l)
 
 -- the values and radii that a step starts from
 module _ (sheet : Sheet) (buffer : List ℤ) where
-  start_ball : (i : ℕ) → i < sheet.head.n → get_or (starts_of sheet) i no_ball ≡ start_ball (get_or sheet.quantities i no_quantity)
+  start_ball_lem : (i : ℕ) → i < sheet.head.n → get_or (starts_of sheet) i no_ball ≡ start_ball (get_or sheet.quantities i no_quantity)
   unfolding starts_of
-  start_ball i h = get_d_tabulate sheet.head.n _ no_ball i h
+  start_ball_lem i h = get_or_tabulate sheet.head.n _ no_ball i h
 
   starts_wide : length (starts_of sheet) ≡ sheet.head.n
   unfolding starts_of
@@ -149,7 +149,7 @@ module _ (sheet : Sheet) (buffer : List ℤ) where
   near_start : {state : State} → Near sheet.head.n state (value_before sheet buffer 0) (radius_before sheet buffer 0) → LiesWithin (starts_of sheet) state
   unfolding value_before radius_before start_ball
   near_start near =
-      within_asks (starts_of sheet) sheet.head.n (value_before sheet buffer 0) (radius_before sheet buffer 0) starts_wide (λ i h. ap (λ (ball : Ball). ball.value) (start_ball i h)) (λ i h. ap (λ (ball : Ball). ball.radius) (start_ball i h)) near
+      within_asks (starts_of sheet) sheet.head.n (value_before sheet buffer 0) (radius_before sheet buffer 0) starts_wide (λ i h. ap (λ (ball : Ball). ball.value) (start_ball_lem i h)) (λ i h. ap (λ (ball : Ball). ball.radius) (start_ball_lem i h)) near
 
   near_before : (count j : ℕ) → j < count → {state : State} → Near sheet.head.n state (value_before sheet buffer j) (radius_before sheet buffer j) → LiesWithin (start_of (starts_of sheet) (rows_in sheet.head.n count buffer) j) state
   unfolding start_of value_before radius_before

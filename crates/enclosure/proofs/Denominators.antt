@@ -17,7 +17,7 @@ use Rattle.model.specs.Sheet.{scale, no_term}
 use Rattle.enclosure.specs.Exact.{State, Orders, order, binomial, factor_ℤ, product, next_order, orders_to, sum_denominator, sum_numerator, exact_sum}
 use Rattle.model.specs.Step.{brings_ℤ}
 use Rattle.model.specs.declared.Term.{Term}
-use Rattle.ranges.proofs.Ranges.{sum_ℤ_equal, sum_ℤ_factor, length_tabulate, get_d_tabulate, tabulate_is, before_or_past}
+use Rattle.ranges.proofs.Ranges.{sum_ℤ_equal, sum_ℤ_factor, length_tabulate, get_or_tabulate, tabulate_is, before_or_past}
 use Rattle.enclosure.proofs.Orders.{orders_grow}
 use Rattle.ranges.proofs.Fractions.{Fraction, ◌÷◌, ◌≃◌}
 
@@ -142,7 +142,7 @@ module _ (terms : List Term) (c : ℕ) (state : State) where
 
       entries : tabulate (length (scaled c state).numerators) (sum_numerator terms (scaled c state) h w K) ≡ map (λ (z : ℤ). pos (c ^ suc K) *ℤ z) (tabulate n (sum_numerator terms state h w K))
       entries =
-          rw scaled_length (tabulate_is n (sum_numerator terms (scaled c state) h w K) (pos 0) (map (λ (z : ℤ). pos (c ^ suc K) *ℤ z) (tabulate n (sum_numerator terms state h w K))) (simp (length-map, length_tabulate)) (λ i l. rw (scaled_entry (c ^ suc K) (tabulate n (sum_numerator terms state h w K)) i, get_d_tabulate n (sum_numerator terms state h w K) (pos 0) i l) (numerator_multiplied h w K i)))
+          rw scaled_length (tabulate_is n (sum_numerator terms (scaled c state) h w K) (pos 0) (map (λ (z : ℤ). pos (c ^ suc K) *ℤ z) (tabulate n (sum_numerator terms state h w K))) (simp (length-map, length_tabulate)) (λ i l. rw (scaled_entry (c ^ suc K) (tabulate n (sum_numerator terms state h w K)) i, get_or_tabulate n (sum_numerator terms state h w K) (pos 0) i l) (numerator_multiplied h w K i)))
 
 -- ---- states of the same numbers
 

@@ -24,7 +24,7 @@ use Rattle.model.specs.declared.Term.{Term}
 use Rattle.laws.proofs.Bounds.Invariant.{scale_le_greatest, reach_le_greatest}
 use Rattle.enclosure.proofs.Coefficients.{sums_enclosed}
 use Rattle.enclosure.proofs.Majorant.{WellFormed, summand_under}
-use Rattle.ranges.proofs.Ranges.{length_tabulate, get_d_tabulate, largest_le}
+use Rattle.ranges.proofs.Ranges.{length_tabulate, get_or_tabulate, largest_le}
 use Rattle.laws.proofs.Bounds.Reach.{scale_positive}
 use Rattle.enclosure.proofs.Tail.{summand, partial_sum, apart, tail_covers_rest}
 
@@ -112,7 +112,7 @@ module _ (terms : List Term) (formed : WellFormed terms) (H : ℤ) (balls : List
     where
       entry : (i : ℕ) → i < length balls → Within (pos scale *ℤ get_or (exact_sum terms H scale K state).numerators i (pos 0)) (sum_denominator state.denominator scale K) (get_or (new_row terms H balls d (tail_at G q d)).balls i no_ball).value (get_or (new_row terms H balls d (tail_at G q d)).balls i no_ball).radius
       entry i lt =
-          rw (get_d_tabulate (length balls) (new_ball (coefficients_to terms H balls d) d (tail_at G q d)) no_ball i lt, get_d_tabulate (length state.numerators) (sum_numerator terms state H scale K) (pos 0) i (rw start.quantities lt)) (sum_enclosed d K i h)
+          rw (get_or_tabulate (length balls) (new_ball (coefficients_to terms H balls d) d (tail_at G q d)) no_ball i lt, get_or_tabulate (length state.numerators) (sum_numerator terms state H scale K) (pos 0) i (rw start.quantities lt)) (sum_enclosed d K i h)
 
   pub step_encloses : (limit K : ℕ) → (step_row terms H limit balls).degree ≤ K → LiesWithin (step_row terms H limit balls).balls (exact_sum terms H scale K state)
   unfolding step_row new_row

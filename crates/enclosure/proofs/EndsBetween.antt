@@ -19,7 +19,7 @@ use Rattle.model.specs.declared.Sheet.{Sheet}
 use Rattle.model.specs.declared.Term.{Term}
 use Rattle.ranges.proofs.Lists.{Each, none}
 use Rattle.laws.proofs.Passages.RowsOfPassage.{run_each, passage_either}
-use Rattle.ranges.proofs.Ranges.{sum_first, sum_plus, sum_ℤ_first, abs_sum_ℤ_le, get_d_tabulate}
+use Rattle.ranges.proofs.Ranges.{sum_first, sum_plus, sum_ℤ_first, abs_sum_ℤ_le, get_or_tabulate}
 use Rattle.laws.proofs.Steps.StepTaken.{step_taken, quantities_stay}
 
 pub record EndsBetween (ball : Ball) (span : Span) : Type 0 where
@@ -78,7 +78,7 @@ step_ends_between terms H limit balls i h =
     let q = ratio terms H (length balls) G in
     let d = degree G q limit in
     let table = coefficients_to terms H balls d in
-    rw (get_d_tabulate (length balls) (new_ball table d (tail_at G q d)) no_ball i h, get_d_tabulate (length balls) (new_span table d (tail_at G q d)) no_span i h) (new_ends_between table d (tail_at G q d) i)
+    rw (get_or_tabulate (length balls) (new_ball table d (tail_at G q d)) no_ball i h, get_or_tabulate (length balls) (new_span table d (tail_at G q d)) no_span i h) (new_ends_between table d (tail_at G q d) i)
 
 pub passage_ends_between : (sheet : Sheet) (places : ℕ) → Each AllEndsBetween (passage sheet places).rows
 unfolding refused

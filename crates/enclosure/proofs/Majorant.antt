@@ -136,10 +136,10 @@ module _ (terms : List Term) (state : State) (h : ℤ) (w G q : ℕ) where
     first_order (suc i) =
         record { bound = rw (pow-zero (nat_abs h * scale), pow-zero q, (orders_grow terms state).starts i) (omega (arith, starts i)) }
 
-    next_order : (k : ℕ) → UnderTo k → (factor : ℕ) → Under (suc k) factor
+    next_order_lem : (k : ℕ) → UnderTo k → (factor : ℕ) → Under (suc k) factor
     unfolding factor_ℤ factor_scale sum_denominator
-    next_order k under zero = record { bound = omega arith }
-    next_order k under (suc i) = record { bound = rw (pow-suc (nat_abs h * scale) k, pow-suc q k, regrouped (suc k) (q ^ k) q D (M k) scale w G) (by_place (dec_lt i (length state.numerators))) }
+    next_order_lem k under zero = record { bound = omega arith }
+    next_order_lem k under (suc i) = record { bound = rw (pow-suc (nat_abs h * scale) k, pow-suc q k, regrouped (suc k) (q ^ k) q D (M k) scale w G) (by_place (dec_lt i (length state.numerators))) }
       where
         regrouped : (n qk q D M s w G : ℕ) → G * (qk * q) * (M * (n * (D * (s * w)))) ≡ n * (qk * (D * M)) * (G * q) * (s * w)
         regrouped n qk q D M s w G = simp ringℕ
@@ -152,7 +152,7 @@ module _ (terms : List Term) (state : State) (h : ℤ) (w G q : ℕ) where
     all_under : (k : ℕ) → UnderTo k
     all_under zero l le factor = let e : l ≡ 0 = omega arith in rw e (first_order factor)
     all_under (suc k) l le factor =
-        ⊎_elim (λ (e : l ≡ suc k). rw e (next_order k (all_under k) factor)) (λ (lt : l < suc k). all_under k l (omega arith) factor) (eq-or-lt_of_le le)
+        ⊎_elim (λ (e : l ≡ suc k). rw e (next_order_lem k (all_under k) factor)) (λ (lt : l < suc k). all_under k l (omega arith) factor) (eq-or-lt_of_le le)
 
     pub summand_under : (k i : ℕ) → nat_abs (pos scale *ℤ (order (orders_to terms state k) k i *ℤ pow h k)) * scale ^ k ≤ G * q ^ k * M k
     unfolding factor_ℤ factor_scale

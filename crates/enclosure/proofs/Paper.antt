@@ -15,7 +15,7 @@ use Rattle.model.specs.Sheet.{scale, no_term}
 use Rattle.enclosure.specs.Exact.{State, order, binomial, factor_ℤ, product, next_order, orders_to, sum_denominator, sum_numerator, exact_sum}
 use Rattle.model.specs.Step.{brings_ℤ}
 use Rattle.model.specs.declared.Term.{Term}
-use Rattle.ranges.proofs.Ranges.{sum_ℤ_equal, sum_ℤ_factor, get_d_tabulate}
+use Rattle.ranges.proofs.Ranges.{sum_ℤ_equal, sum_ℤ_factor, get_or_tabulate}
 use Rattle.enclosure.proofs.Orders.{orders_grow, factor_ℤ_stays}
 use Rattle.ranges.proofs.Fractions.{Fraction, ◌÷◌, ◌≃◌, times, total, plus_over, times_over, over_multiple, over_multiplied, turned, itself, nothing_over, total_over}
 use Rattle.enclosure.proofs.Binomial.{binomial_denominators}
@@ -147,4 +147,4 @@ module _ (terms : List Term) (state : State) (h : ℤ) (w : ℕ) where
 
   pub exact_sum_is_sum_of_powers : (K i : ℕ) → i < length state.numerators → get_or (exact_sum terms h w K state).numerators i (pos 0) ÷ (exact_sum terms h w K state).denominator ≃ sum_of_powers terms state h w K i
   unfolding exact_sum
-  exact_sum_is_sum_of_powers K i l = rw (get_d_tabulate (length state.numerators) (sum_numerator terms state h w K) (pos 0) i l) (turned (sum_over K i))
+  exact_sum_is_sum_of_powers K i l = rw (get_or_tabulate (length state.numerators) (sum_numerator terms state h w K) (pos 0) i l) (turned (sum_over K i))

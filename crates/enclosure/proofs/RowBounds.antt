@@ -22,7 +22,7 @@ use Rattle.enclosure.proofs.Enclosed.{denominator_positive, at_most_half, order_
 use Rattle.enclosure.proofs.ExactStates.{state_of_values, values_lie_within}
 use Rattle.laws.proofs.Bounds.Invariant.{reach_le_greatest}
 use Rattle.enclosure.proofs.Majorant.{WellFormed}
-use Rattle.ranges.proofs.Ranges.{sum_suc, sum_plus, sum_first, abs_sum_ℤ_le, get_d_tabulate}
+use Rattle.ranges.proofs.Ranges.{sum_suc, sum_plus, sum_first, abs_sum_ℤ_le, get_or_tabulate}
 use Rattle.laws.proofs.Bounds.Reach.{scale_positive}
 use Rattle.laws.proofs.Steps.Tables.{coefficients_grow}
 use Rattle.enclosure.proofs.Tail.{summand}
@@ -105,11 +105,11 @@ module _ (terms : List Term) (formed : WellFormed terms) (H : ℤ) (balls : List
   row_sharp limit h =
       let q = ratio terms H (length balls) G in
       let d = degree G q limit in
-      rw (get_d_tabulate (length balls) (new_ball (table d) d (tail_at G q d)) no_ball i h) (omega (arith, value_sharp d (tail_at G q d)))
+      rw (get_or_tabulate (length balls) (new_ball (table d) d (tail_at G q d)) no_ball i h) (omega (arith, value_sharp d (tail_at G q d)))
 
   pub spans_sharp : (limit : ℕ) → i < length balls → Spread G (step_row terms H limit balls) i
   unfolding step_row new_row
   spans_sharp limit h =
       let q = ratio terms H (length balls) G in
       let d = degree G q limit in
-      rw (get_d_tabulate (length balls) (new_span (table d) d (tail_at G q d)) no_span i h, get_d_tabulate (length balls) (new_ball (table d) d (tail_at G q d)) no_ball i h) (span_sharp d (tail_at G q d))
+      rw (get_or_tabulate (length balls) (new_span (table d) d (tail_at G q d)) no_span i h, get_or_tabulate (length balls) (new_ball (table d) d (tail_at G q d)) no_ball i h) (span_sharp d (tail_at G q d))

@@ -24,7 +24,7 @@ use Rattle.model.specs.declared.Term.{Term}
 use Rattle.enclosure.proofs.Coefficients.{summand_enclosed}
 use Rattle.enclosure.proofs.Enclosed.{denominator_positive, tail_encloses}
 use Rattle.enclosure.proofs.Majorant.{WellFormed}
-use Rattle.ranges.proofs.Ranges.{sum_first, sum_ℤ_first, sum_ℤ_zero, length_tabulate, get_d_tabulate}
+use Rattle.ranges.proofs.Ranges.{sum_first, sum_ℤ_first, sum_ℤ_zero, length_tabulate, get_or_tabulate}
 use Rattle.laws.proofs.Bounds.Reach.{scale_positive}
 use Rattle.enclosure.proofs.Tail.{summand, partial_sum, sums_within}
 
@@ -128,10 +128,10 @@ module _ (terms : List Term) (formed : WellFormed terms) (H : ℤ) (balls : List
       }
     where
       number_at : (i : ℕ) → i < length (spans d) → get_or (exact_sum terms (H *ℤ pos u) (scale * w) K state).numerators i (pos 0) ≡ sum_numerator terms state (H *ℤ pos u) (scale * w) K i
-      number_at i lt = get_d_tabulate (length state.numerators) (sum_numerator terms state (H *ℤ pos u) (scale * w) K) (pos 0) i (rw start.quantities (rw length_tabulate at lt))
+      number_at i lt = get_or_tabulate (length state.numerators) (sum_numerator terms state (H *ℤ pos u) (scale * w) K) (pos 0) i (rw start.quantities (rw length_tabulate at lt))
 
       span_at : (i : ℕ) → i < length (spans d) → get_or (spans d) i no_span ≡ new_span (table d) d (tail_at G q d) i
-      span_at i lt = get_d_tabulate (length balls) (new_span (table d) d (tail_at G q d)) no_span i (rw length_tabulate at lt)
+      span_at i lt = get_or_tabulate (length balls) (new_span (table d) d (tail_at G q d)) no_span i (rw length_tabulate at lt)
 
   pub step_between : (limit K : ℕ) → (step_row terms H limit balls).degree ≤ K → LiesBetween (step_row terms H limit balls).spans (exact_sum terms (H *ℤ pos u) (scale * w) K state)
   unfolding step_row new_row

@@ -22,7 +22,7 @@ use Rattle.model.specs.declared.Term.{Term}
 use Rattle.enclosure.proofs.Enclosed.{step_encloses}
 use Rattle.enclosure.proofs.Majorant.{WellFormed}
 use Rattle.laws.proofs.Passages.RowsOfPassage.{passage_either}
-use Rattle.ranges.proofs.Ranges.{below, length_tabulate, get_d_tabulate}
+use Rattle.ranges.proofs.Ranges.{below, length_tabulate, get_or_tabulate}
 use Rattle.enclosure.proofs.GatheredRates.{rates_gathered, trusted_same}
 use Rattle.laws.proofs.Gathering.GatheredBounds.{bounds_of_gathered}
 use Rattle.laws.proofs.Steps.StepTaken.{Taken, step_taken}
@@ -73,11 +73,11 @@ module _ (terms : List Term) (H : ℤ) where
       longer = tabulate (length rows) raised
 
       no_lower : NoLower longer rows
-      no_lower = record { each = length_tabulate (length rows) raised; lower = λ i l. rw (get_d_tabulate (length rows) raised 0 i l) (le-max_right _ _) }
+      no_lower = record { each = length_tabulate (length rows) raised; lower = λ i l. rw (get_or_tabulate (length rows) raised 0 i l) (le-max_right _ _) }
 
       kept : (i : ℕ) → i < count → get_or longer i 0 ≡ get_or degrees i 0
       kept i l =
-          get_d_tabulate (length rows) raised 0 i (omega arith) ∙ max-eq_left (rw (get_or-take count rows i no_row) at (lower.lower i (omega (arith, length-take-le count rows few))))
+          get_or_tabulate (length rows) raised 0 i (omega arith) ∙ max-eq_left (rw (get_or-take count rows i no_row) at (lower.lower i (omega (arith, length-take-le count rows few))))
 
 -- ---- step after step
 

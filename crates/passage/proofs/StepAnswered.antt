@@ -11,7 +11,7 @@ use Rattle.model.specs.declared.Ball.{Ball}
 use Rattle.model.specs.declared.Balls.{Balls}
 use Rattle.model.specs.declared.Term.{Term}
 use Rattle.model.specs.declared.Refusal.{Refusal}
-use Rattle.ranges.proofs.Ranges.{length_tabulate, get_d_tabulate}
+use Rattle.ranges.proofs.Ranges.{length_tabulate, get_or_tabulate}
 use Rattle.laws.proofs.Steps.StepTaken.{step_taken, row_of_quantities}
 use Rattle.enclosure.proofs.Orders.{all_tolerated}
 use Rattle.taylor.specs.StepAnswers.{advance_of, row_laid_out, answered, row_of}
@@ -54,4 +54,4 @@ module _ (terms : List Term) (H : ℤ) (limit tol : ℕ) where
   unfolding balls_in ball_in
   radii_at_most balls n degree row e i h =
       let tolerated = all_tolerated tol (balls_of n row.balls) (step_taken terms H limit tol balls e).is_tolerable in
-      rw (get_d_tabulate n (ball_in row.balls.values row.balls.radii) no_ball i h) at (tolerated.within i (rw length_tabulate h))
+      rw (get_or_tabulate n (ball_in row.balls.values row.balls.radii) no_ball i h) at (tolerated.within i (rw length_tabulate h))

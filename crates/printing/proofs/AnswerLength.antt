@@ -18,7 +18,7 @@ use Rattle.model.specs.declared.Outcome.{Outcome}
 use Rattle.model.specs.declared.Outcome.TheVariants.{Accepted, Refused}
 use Rattle.model.specs.declared.Refusal.TheVariants.{RowOutOfRange}
 use Rattle.model.proofs.RefusalNumbers.{number_short}
-use Rattle.ranges.proofs.Ranges.{get_d_tabulate}
+use Rattle.ranges.proofs.Ranges.{get_or_tabulate}
 use Rattle.ranges.proofs.Lists.{Each, none, entry_first}
 use Rattle.laws.proofs.Passages.RowPlaces.{Wide}
 use Rattle.laws.proofs.Passages.RowsOfPassage.{AllButLast, empty, last, earlier}
@@ -102,10 +102,10 @@ longest_printable =
     record { degree = omega arith; values = λ i h. rw (each i h) (omega arith); radii = λ i h. rw (each i h) (omega arith); lows = λ i h. rw (each_span i h) (omega arith); highs = λ i h. rw (each_span i h) (omega arith) }
   where
     each_span : (i : ℕ) → i < length longest_row.spans → get_or longest_row.spans i no_span ≡ longest_span
-    each_span i h = get_d_tabulate most_quantities (λ i. longest_span) no_span i h
+    each_span i h = get_or_tabulate most_quantities (λ i. longest_span) no_span i h
 
     each : (i : ℕ) → i < length longest_row.balls → get_or longest_row.balls i no_ball ≡ longest_ball
-    each i h = get_d_tabulate most_quantities (λ i. longest_ball) no_ball i h
+    each i h = get_or_tabulate most_quantities (λ i. longest_ball) no_ball i h
 
 row_reached : length (rows_text most_steps (longest_row ∷ [])) ≡ most_row value_digits most_quantities
 unfolding longest_row longest_ball longest_span rows_text quantities_text printed bytes decimal decimal_by digit most tabulate

@@ -14,7 +14,7 @@ use Rattle.rounding.proofs.Machine.{sfits_abs}
 use Rattle.ranges.specs.Range.{tabulate}
 use Rattle.model.specs.Sheet.{scale, most, most_quantities}
 use Rattle.model.specs.Step.{most_degree, no_ball, reach, coefficient, factor}
-use Rattle.ranges.proofs.Ranges.{before_or_past, get_d_tabulate, get_or_tabulate_past}
+use Rattle.ranges.proofs.Ranges.{before_or_past, get_or_tabulate, get_or_tabulate_past}
 use Rattle.laws.proofs.Bounds.ShareBounds.{FactorsReach}
 use Rattle.laws.proofs.Bounds.WorkingNumbers.{value_le_reach}
 use Rattle.products.specs.Table.{table_places, place, ball_at, table_in, Table, Small, Reached, IsQuantity}
@@ -33,11 +33,11 @@ reach_at table order i = omega (arith, table.covered (place i order))
 module _ (k : ℕ) (values : List ℤ) (reaches : List ℕ) (order : ℕ) (h : order ≤ k) where
   row_in : get_or (table_in k values reaches) order [] ≡ tabulate most_quantities (ball_at values reaches order)
   unfolding table_in
-  row_in = get_d_tabulate (suc k) (λ order. tabulate most_quantities (ball_at values reaches order)) [] order (omega arith)
+  row_in = get_or_tabulate (suc k) (λ order. tabulate most_quantities (ball_at values reaches order)) [] order (omega arith)
 
   pub coefficient_in : (i : ℕ) → i < most_quantities → coefficient (table_in k values reaches) order i ≡ ball_at values reaches order i
   unfolding coefficient
-  coefficient_in i l = rw row_in (get_d_tabulate most_quantities (ball_at values reaches order) no_ball i l)
+  coefficient_in i l = rw row_in (get_or_tabulate most_quantities (ball_at values reaches order) no_ball i l)
 
   pub coefficient_past : (i : ℕ) → most_quantities ≤ i → coefficient (table_in k values reaches) order i ≡ no_ball
   unfolding coefficient

@@ -144,11 +144,11 @@ unfolding tabulate
 length_tabulate zero f = refl
 length_tabulate (suc n) f = length-append (tabulate n f) (f n ∷ []) ∙ ap (λ (m : ℕ). m + 1) (length_tabulate n f) ∙ add-one n
 
-pub get_d_tabulate : {A : Type 0} (n : ℕ) (f : ℕ → A) (x : A) (i : ℕ) → i < n → get_or (tabulate n f) i x ≡ f i
+pub get_or_tabulate : {A : Type 0} (n : ℕ) (f : ℕ → A) (x : A) (i : ℕ) → i < n → get_or (tabulate n f) i x ≡ f i
 unfolding tabulate
-get_d_tabulate zero f x i h = absurd (omega arith)
-get_d_tabulate (suc n) f x i h =
-    ⊎_elim last (λ (lt : i < n). earlier lt (get_d_tabulate n f x i lt)) (eq-or-lt_of_le {n = i} {m = n} (omega arith))
+get_or_tabulate zero f x i h = absurd (omega arith)
+get_or_tabulate (suc n) f x i h =
+    ⊎_elim last (λ (lt : i < n). earlier lt (get_or_tabulate n f x i lt)) (eq-or-lt_of_le {n = i} {m = n} (omega arith))
   where
     earlier : i < n → get_or (tabulate n f) i x ≡ f i → get_or (tabulate n f ++ (f n ∷ [])) i x ≡ f i
     earlier lt e = get_or-append (tabulate n f) (f n ∷ []) x i (rw length_tabulate lt) ∙ e
@@ -172,7 +172,7 @@ get_or_tabulate_past n f x i h = get_or-eq_default (tabulate n f) x (rw length_t
 -- a list is what its numbers make of its entries
 pub tabulate_is : {A : Type 0} (n : ℕ) (f : ℕ → A) (x : A) (xs : List A) → length xs ≡ n → ((i : ℕ) → i < n → f i ≡ get_or xs i x) → tabulate n f ≡ xs
 tabulate_is n f x xs len h =
-    ext_get_or x (tabulate n f) xs (length_tabulate n f ∙ sym len) (λ i k. let l : i < n = rw length_tabulate at k in get_d_tabulate n f x i l ∙ h i l)
+    ext_get_or x (tabulate n f) xs (length_tabulate n f ∙ sym len) (λ i k. let l : i < n = rw length_tabulate at k in get_or_tabulate n f x i l ∙ h i l)
 
 -- ---- fewer summands, and one of them
 

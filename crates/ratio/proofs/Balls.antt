@@ -9,7 +9,7 @@ use Rattle.ranges.specs.Range.{largest}
 use Rattle.model.specs.Sheet.{scale}
 use Rattle.model.specs.Step.{no_ball, reach, greatest}
 use Rattle.laws.proofs.Passages.RowPlaces.{length_balls}
-use Rattle.ranges.proofs.Ranges.{below, get_d_tabulate}
+use Rattle.ranges.proofs.Ranges.{below, get_or_tabulate}
 use Rattle.model.specs.Rows.{balls_in, ball_in}
 
 -- the largest of one number more
@@ -26,7 +26,7 @@ largest_equal (suc n) f g h = ap₂ max (largest_equal n f g (below n h)) (h n (
 -- .. each from its places
 pub get_or_balls : (n : ℕ) (values : List ℤ) (radii : List ℕ) (i : ℕ) → i < n → get_or (balls_in n values radii) i no_ball ≡ ball_in values radii i
 unfolding balls_in
-get_or_balls n values radii i h = get_d_tabulate n (ball_in values radii) no_ball i h
+get_or_balls n values radii i h = get_or_tabulate n (ball_in values radii) no_ball i h
 
 -- G of the balls read from the arrays
 pub greatest_is : (n : ℕ) (values : List ℤ) (radii : List ℕ) → greatest (balls_in n values radii) ≡ max scale (largest n (λ i. reach (ball_in values radii i)))

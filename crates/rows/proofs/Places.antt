@@ -16,7 +16,7 @@ use Rattle.model.specs.declared.Balls.{Balls}
 use Rattle.model.specs.declared.Span.{Span}
 use Rattle.model.specs.declared.Spans.{Spans}
 use Rattle.rows.specs.Room.{HasRow, HasRows}
-use Rattle.ranges.proofs.Ranges.{get_d_tabulate, length_tabulate, map_tabulate}
+use Rattle.ranges.proofs.Ranges.{get_or_tabulate, length_tabulate, map_tabulate}
 use Rattle.ranges.proofs.Stores.{sets_append}
 
 -- a part ends where the row does, or before
@@ -54,14 +54,14 @@ row_stored buffer n j degree balls spans =
 module _ (n j : ℕ) (rows : List ℤ) (i : ℕ) (h : i < n) where
   ball_read : get_or (row_in n rows j).balls i no_ball ≡ record { value = get_or rows (part_place n j values_part i) (pos 0); radius = nat_abs (get_or rows (part_place n j radii_part i) (pos 0)) }
   unfolding row_in
-  ball_read = get_d_tabulate n _ no_ball i h
+  ball_read = get_or_tabulate n _ no_ball i h
 
   pub value_read : (get_or (row_in n rows j).balls i no_ball).value ≡ get_or rows (part_place n j values_part i) (pos 0)
   value_read = ap (λ (ball : Ball). ball.value) ball_read
 
   span_read : get_or (row_in n rows j).spans i no_span ≡ record { low = get_or rows (part_place n j lows_part i) (pos 0); high = get_or rows (part_place n j highs_part i) (pos 0) }
   unfolding row_in
-  span_read = get_d_tabulate n _ no_span i h
+  span_read = get_or_tabulate n _ no_span i h
 
   pub low_read : (get_or (row_in n rows j).spans i no_span).low ≡ get_or rows (part_place n j lows_part i) (pos 0)
   low_read = ap (λ (span : Span). span.low) span_read

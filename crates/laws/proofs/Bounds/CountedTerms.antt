@@ -7,7 +7,7 @@ use Rattle.model.specs.Sheet.{most_terms, no_term, listed}
 use Rattle.laws.specs.Bounds.{Summable}
 use Rattle.model.specs.declared.Term.{Term}
 use Rattle.model.specs.declared.Terms.{Terms}
-use Rattle.ranges.proofs.Ranges.{sum_equal, length_tabulate, get_d_tabulate}
+use Rattle.ranges.proofs.Ranges.{sum_equal, length_tabulate, get_or_tabulate}
 
 module _ (terms : Terms) where
   pub length_listed : length (listed terms) ≡ terms.count
@@ -20,7 +20,7 @@ module _ (terms : Terms) where
 
   pub get_or_listed : (j : ℕ) → j < terms.count → get_or (listed terms) j no_term ≡ get_or terms.list j no_term
   unfolding listed
-  get_or_listed j h = get_d_tabulate terms.count _ no_term j h
+  get_or_listed j h = get_or_tabulate terms.count _ no_term j h
 
   pub sum_listed : (f : Term → ℕ) → sum (length (listed terms)) (λ j. f (get_or (listed terms) j no_term)) ≡ sum terms.count (λ j. f (get_or terms.list j no_term))
   sum_listed f =

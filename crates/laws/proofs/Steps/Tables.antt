@@ -10,7 +10,7 @@ use Rattle.ranges.specs.Range.{tabulate}
 use Rattle.model.specs.Step.{no_ball, coefficient, factor, next_coefficient, coefficients_to}
 use Rattle.model.specs.declared.Ball.{Ball}
 use Rattle.model.specs.declared.Term.{Term}
-use Rattle.ranges.proofs.Ranges.{get_d_tabulate, get_or_tabulate_past}
+use Rattle.ranges.proofs.Ranges.{get_or_tabulate, get_or_tabulate_past}
 
 -- a ball by its parts
 pub ball_equal : {v w : ℤ} {r s : ℕ} → v ≡ w → r ≡ s → ◌≡◌ {A = Ball} (record { value = v; radius = r }) (record { value = w; radius = s })
@@ -35,7 +35,7 @@ module _ {A : Type 0} (none : A) (start : List A) (next : ℕ → ℕ → A) (ta
   rows (suc d) = one_more d ∙ ap (λ (t : List (List A)). t ++ (tabulate (length start) (next d) ∷ [])) (rows d)
 
   row_stays : (d k : ℕ) → k ≤ d → get_or (table d) k [] ≡ row start next k
-  row_stays d k h = ap (λ (t : List (List A)). get_or t k []) (rows d) ∙ get_d_tabulate (suc d) (row start next) [] k (omega arith)
+  row_stays d k h = ap (λ (t : List (List A)). get_or t k []) (rows d) ∙ get_or_tabulate (suc d) (row start next) [] k (omega arith)
 
   entry_is : (d k i : ℕ) → k ≤ d → get_or (get_or (table d) k []) i none ≡ get_or (row start next k) i none
   entry_is d k i h = ap (λ (r : List A). get_or r i none) (row_stays d k h)
@@ -51,7 +51,7 @@ module _ {A : Type 0} (none : A) (start : List A) (next : ℕ → ℕ → A) (ta
       record {
         stays = λ d k i h. entry_is d k i h ∙ sym (entry_is k k i (omega arith));
         starts = λ i. entry_is 0 0 i (omega arith);
-        continues = λ k i h. entry_is (suc k) (suc k) i (omega arith) ∙ get_d_tabulate (length start) (next k) none i h;
+        continues = λ k i h. entry_is (suc k) (suc k) i (omega arith) ∙ get_or_tabulate (length start) (next k) none i h;
         past = λ d k i h p. entry_is d k i h ∙ past_row k i p;
       }
 

@@ -29,7 +29,7 @@ use Rattle.model.specs.declared.Terms.{Terms}
 use Rattle.model.specs.declared.Sheet.{Sheet}
 use Rattle.model.specs.declared.Outcome.TheVariants.{Accepted, Refused}
 use Rattle.laws.proofs.Text.Verdicts.{refusal_not_passes, in_range_lem, few_quantities, sheet_in_range, both_pass}
-use Rattle.ranges.proofs.Ranges.{below, before_or_past, get_d_tabulate}
+use Rattle.ranges.proofs.Ranges.{below, before_or_past, get_or_tabulate}
 use Rattle.laws.proofs.Text.Parsers.{Delivers, delivers, faulty, Yields, Each, yields_return, yields_then, yields_times, yields_end, yields_field, yields_signed, yields_step}
 
 -- ---- the parts of a sheet
@@ -224,4 +224,4 @@ pub start_is_read : (sheet : Sheet) → sheet_verdict sheet ≡ passes → (i : 
 unfolding starts_of start_ball start_value
 start_is_read sheet h i l =
     let read = starts_are_readings sheet h i l in
-    (read.0, read.1, ap (λ (ball : Ball). ball.value) (get_d_tabulate sheet.head.n (λ i. start_ball (get_or sheet.quantities i no_quantity)) no_ball i l) ∙ ap start_value read.1)
+    (read.0, read.1, ap (λ (ball : Ball). ball.value) (get_or_tabulate sheet.head.n (λ i. start_ball (get_or sheet.quantities i no_quantity)) no_ball i l) ∙ ap start_value read.1)

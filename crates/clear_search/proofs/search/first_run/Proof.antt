@@ -7,7 +7,7 @@ use native.Mathlib.Omega.{arith}
 use lib.IntN.{ℤ}
 use Rattle.model.specs.Rows.{row_in, rows_in}
 use Rattle.model.specs.Step.{no_row}
-use Rattle.ranges.proofs.Ranges.{get_d_tabulate}
+use Rattle.ranges.proofs.Ranges.{get_or_tabulate}
 use Rattle.ranges.proofs.EveryLaws.{every_holds}
 use Rattle.rows.proofs.Places.{has_row}
 use Rattle.clear_rule.specs.Asked.{Weighable, Searchable}
@@ -23,7 +23,7 @@ module _ (n count : ℕ) (buffer : List ℤ) where
   -- a row of the buffer, as one of the counted rows
   row_is : (j : ℕ) → j < count → (query : Query) {answer : Bool} → answer ≡ certain query (row_in n buffer j) → answer ≡ certainly query (rows_in n count buffer) j
   unfolding rows_in
-  row_is j h query e = e ∙ ap (certain query) (sym (get_d_tabulate count (row_in n buffer) no_row j h))
+  row_is j h query e = e ∙ ap (certain query) (sym (get_or_tabulate count (row_in n buffer) no_row j h))
 
   weighable : (j : ℕ) → j < count → {query : Query} → Searchable n count buffer query → Weighable n j buffer query
   weighable j h s =
