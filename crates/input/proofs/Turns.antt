@@ -1,14 +1,6 @@
--- What a read came to: worked cases, the tests that the code makes of its answer, and how many bytes are counted.
-use Prim.Native.Nat.{ℕ, zero, suc, ◌≤◌, ◌<◌, min}
-use mathlib.Core.Bool.{true, false}
-use mathlib.Core.List.{[], ◌∷◌, map}
-use mathlib.Core.Path.{◌≡◌, refl, sym, ap, ◌∙◌}
+-- What a read came to: worked cases, and how many bytes are counted.
+use Rattle.std.proofs.Common.{◌≡◌, ℕ, zero, suc, ◌≤◌, ◌<◌, min, true, false, [], ◌∷◌, map, refl, sym, ap, arith, Result, Ok, Err}
 use native.Mathlib.Nat.{min-le_right}
-use native.Mathlib.Omega.{arith}
-use borrow.Author.Tests.{ltb-true}
-use lib.IntN.{ℤ, pos, negsuc}
-use lib.Signed.{lt_z}
-use Rattle.io.specs.Counts.{clamp_len}
 use Rattle.input.specs.Counted.{counted, readable, bytes_more, turn_of}
 use Rattle.input.specs.declared.Input.TheVariants.{Bytes, Unreadable}
 use Rattle.input.specs.declared.Turn.{Turn}
@@ -16,43 +8,28 @@ use Rattle.input.specs.declared.Turn.TheVariants.{More, End, Failed}
 
 -- answers of reads with room for five bytes, and what an input came to
 pub inputs_come_to :
-    (map (λ got. turn_of got 5) (negsuc 0 ∷ negsuc 1 ∷ pos 0 ∷ pos 1 ∷ pos 5 ∷ pos 6 ∷ []) ≡ Failed ∷ Failed ∷ End ∷ More 1 ∷ More 5 ∷ More 5 ∷ [])
+    (map (λ got. turn_of {E = ℕ} got 5) (Err 1 ∷ Err 2 ∷ Ok 0 ∷ Ok 1 ∷ Ok 5 ∷ Ok 6 ∷ []) ≡ Failed ∷ Failed ∷ End ∷ More 1 ∷ More 5 ∷ More 5 ∷ [])
     × (map counted (Bytes 5 ∷ Bytes 0 ∷ Unreadable ∷ []) ≡ 5 ∷ 0 ∷ 0 ∷ [])
     × (map readable (Bytes 5 ∷ Bytes 0 ∷ Unreadable ∷ []) ≡ true ∷ true ∷ false ∷ [])
 unfolding turn_of bytes_more counted readable
 inputs_come_to = (refl, refl, refl)
 
--- a negative answer is a failure
-pub failed_is : (got : ℤ) (room : ℕ) → lt_z got (pos 0) ≡ true → Failed ≡ turn_of got room
-unfolding turn_of
-failed_is (pos k) room h = absurd (omega (arith, ltb-true k 0 h))
-failed_is (negsuc k) room h = refl
+-- no bytes are the end, and any others are so many more
+pub end_is : (n : ℕ) → n ≡ 0 → End ≡ bytes_more n
+unfolding bytes_more
+end_is n e = sym (ap bytes_more e)
 
--- any other is so many bytes, and the end where there are none
-counted_is : (got : ℤ) (room : ℕ) → lt_z got (pos 0) ≡ false → bytes_more (clamp_len got room) ≡ turn_of got room
-unfolding turn_of
-counted_is (pos k) room h = refl
-counted_is (negsuc k) room h = absurd (let z : ◌≡◌ {A = ℕ} 0 1 = cc in omega arith)
-
-module _ (got : ℤ) (room : ℕ) {more : ℕ} (not-failed : lt_z got (pos 0) ≡ false) (count : more ≡ clamp_len got room) where
-  pub end_is : more ≡ 0 → End ≡ turn_of got room
-  unfolding bytes_more
-  end_is none = ap bytes_more (sym none ∙ count) ∙ counted_is got room not-failed
-
-  pub more_is : (more ≡ 0 → ⊥) → More more ≡ turn_of got room
-  unfolding bytes_more
-  more_is some = go more some ∙ ap bytes_more count ∙ counted_is got room not-failed
-    where
-      go : (n : ℕ) → (n ≡ 0 → ⊥) → More n ≡ bytes_more n
-      go zero some = absurd (some refl)
-      go (suc n) some = refl
+pub more_is : (n : ℕ) → (n ≡ 0 → ⊥) → More n ≡ bytes_more n
+unfolding bytes_more
+more_is zero some = absurd (some refl)
+more_is (suc n) some = refl
 
 -- some bytes are counted, and no more than there was room for
-pub more_fits : (got : ℤ) (room : ℕ) {turn : Turn} {more : ℕ} → turn ≡ turn_of got room → turn ≡ More more → (0 < more) × (more ≤ room)
+pub more_fits : {E : Type 0} (got : Result ℕ E) (room : ℕ) {more : ℕ} → More more ≡ turn_of got room → (0 < more) × (more ≤ room)
 unfolding turn_of bytes_more
-more_fits (pos k) room {more = more} e is = go (min k room) (min-le_right k room) (sym e ∙ is)
+more_fits (Ok k) room {more} e = go (min k room) (min-le_right k room) e
   where
-    go : (n : ℕ) → n ≤ room → bytes_more n ≡ More more → (0 < more) × (more ≤ room)
+    go : (n : ℕ) → n ≤ room → More more ≡ bytes_more n → (0 < more) × (more ≤ room)
     go zero h e = absurd (let z : ◌≡◌ {A = ℕ} 0 1 = cc in omega arith)
     go (suc n) h e = let same : suc n ≡ more = cc in (omega arith, omega arith)
-more_fits (negsuc k) room e is = absurd (let z : ◌≡◌ {A = ℕ} 0 1 = cc in omega arith)
+more_fits (Err e) room is = absurd (let z : ◌≡◌ {A = ℕ} 0 1 = cc in omega arith)
