@@ -2,28 +2,25 @@
 // written is said on standard error.
 #![tactic(auto)]
 
+use std::io;
+
 use answer::SHEET_LENGTH;
 use conversion::{CONVERTED_LENGTH, convert_input};
 use input::{Input, read_input};
-use libc::{STDERR_FILENO, STDOUT_FILENO};
 
 // Reads a stored sheet, and prints what it comes out as.
-fn main() {
+fn main(rt: HostRuntime) -> io::Result<()> {
     let mut sheet = [0u8; SHEET_LENGTH];
     let mut text = [0u8; CONVERTED_LENGTH];
-    let input = read_input(&mut sheet);
+    let input = read_input(&mut rt.stdin(), &mut sheet);
     match input {
-        Input::Unreadable => {
-            io::write_all(STDERR_FILENO, b"convert: standard input cannot be read\n");
-        }
+        Input::Unreadable => eprintln!(rt; "convert: standard input cannot be read"),
         Input::Bytes(count) => {
             let length = convert_input(&sheet, count, &mut text);
-            if !io::write_all(STDOUT_FILENO, &text[..length]) {
-                io::write_all(
-                    STDERR_FILENO,
-                    b"convert: the conversion cannot be written\n",
-                );
+            if rt.write_all(&text[..length]).is_err() {
+                return eprintln!(rt; "convert: the conversion cannot be written");
             }
+            Ok(())
         }
     }
 }
