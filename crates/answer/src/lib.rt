@@ -59,8 +59,7 @@ fn run_sheet(sheet: &[u8], rows: &mut [i64]) -> Ended
 
 // Reads a sheet, runs its passage into `rows` and prints the answer into `text`. Gives the length of the whole answer, of
 // which `text` holds as much as fits.
-#[unsafe(no_mangle)]
-pub extern "C" fn planner_answer(sheet: &[u8], rows: &mut [i64], text: &mut [u8]) -> usize
+pub fn planner_answer(sheet: &[u8], rows: &mut [i64], text: &mut [u8]) -> usize
     ensures printed { Printed text.old (run_text (run_lent sheet.now (length rows.old))) result text.new }
     ensures bounded { result ≤ most_answer }
     ensures leaves { Leaves (read_sheet sheet.now).sheet (run_lent sheet.now (length rows.old)) rows.old rows.new }
@@ -84,8 +83,7 @@ fn put_summary(summary: &mut [u64], ended: Ended)
 
 // Reads a sheet and runs its passage into `rows`, without a text. `summary` is then the result, the refused step, the
 // sheet's quantities and the rows written.
-#[unsafe(no_mangle)]
-pub extern "C" fn planner_run(sheet: &[u8], rows: &mut [i64], summary: &mut [u64; SUMMARY_LENGTH])
+pub fn planner_run(sheet: &[u8], rows: &mut [i64], summary: &mut [u64; SUMMARY_LENGTH])
     ensures summarised { summary.new ≡ summary_of (ended_of sheet.now (length rows.old)) }
     ensures leaves { Leaves (read_sheet sheet.now).sheet (run_lent sheet.now (length rows.old)) rows.old rows.new }
 {

@@ -61,8 +61,7 @@ fn found_number(found: Found) -> i64
 }
 
 // `first_clear` for C: the weights are lent, and the answer is one number.
-#[unsafe(no_mangle)]
-pub extern "C" fn planner_first_clear(
+pub fn planner_first_clear(
     n: usize,
     count: usize,
     rows: &[i64],

@@ -62,8 +62,7 @@ fn split(sheet: Sheet, rows: &mut [i64], text: &mut [u8]) -> usize
 
 // Converts a stored sheet into `text`: as it is where it has no more steps than a passage may have, and otherwise in two parts,
 // by way of the rows of the first. Gives the length of the whole, of which `text` holds as much as fits.
-#[unsafe(no_mangle)]
-pub extern "C" fn planner_convert(sheet: &[u8], rows: &mut [i64], text: &mut [u8]) -> usize
+pub fn planner_convert(sheet: &[u8], rows: &mut [i64], text: &mut [u8]) -> usize
     ensures printed { Printed text.old (converted_lent sheet.now (length rows.old)) result text.new }
     ensures bounded { result ≤ most_bytes }
     ensures leaves { Leaves (model.first_part most_steps (read_sheet_to stored_steps sheet.now).sheet) (split_lent sheet.now (length rows.old)) rows.old rows.new }
