@@ -4,7 +4,7 @@
 #![tactic(auto)]
 
 ghost use Rattle.std.specs.Prelude.{◌≡◌, length};
-ghost use Rattle.model.specs.Sheet.{result, refused_step, Gives};
+ghost use Rattle.model.specs.Sheet.{result as printed_result, refused_step, Gives};
 ghost use Rattle.model.specs.Passage as passage;
 ghost use Rattle.enclosure.specs.Trust.{Leaves};
 ghost use Rattle.clear_rule.specs.Asked.{NamesRow};
@@ -26,9 +26,9 @@ const COUNT: Limits = Limits {
 
 // The first of `count` rows of n quantities that opens a run of certain rows. Nothing past the count is looked at.
 pub fn first_clear(n: usize, count: usize, rows: &[i64], query: Query) -> Found
-    ensures* found { λ r. ⌜ r ≡ clearance.first_clear n count rows.now query ⌝ }
-    ensures* said { λ r. ⌜ Said n count rows.now query r ⌝ }
-    ensures* numbered { λ r. ⌜ clearance.Names r (clearance.first_clear n count rows.now query) ⌝ }
+    ensures found { result ≡ clearance.first_clear n count rows.now query }
+    ensures said { Said n count rows.now query result }
+    ensures numbered { clearance.Names result (clearance.first_clear n count rows.now query) }
 {
     if !natural_within(limits::N, n as u64) {
         return Found::Refused(Refusal::OutOfRange);
@@ -51,7 +51,7 @@ pub fn first_clear(n: usize, count: usize, rows: &[i64], query: Query) -> Found
 // An answer as one number: the row's, 0 for none, or a refusal's with a minus.
 fn found_number(found: Found) -> i64
     requires { NamesRow found }
-    ensures* { λ r. ⌜ r ≡ clearance.found_number found ⌝ }
+    ensures { result ≡ clearance.found_number found }
 {
     match found {
         Found::At(row) => row as i64,
@@ -70,8 +70,8 @@ pub fn planner_first_clear(
     need: i64,
     run: usize,
 ) -> i64
-    ensures* found { λ r. ⌜ r ≡ clearance.found_number (clearance.first_clear n count rows.now (record { weights = weights.entry.now; base = base; need = need; run = run })) ⌝ }
-    ensures* said { λ r. ⌜ SaidBy n count rows.now (record { weights = weights.entry.now; base = base; need = need; run = run }) r ⌝ }
+    ensures found { result ≡ clearance.found_number (clearance.first_clear n count rows.now (record { weights = weights.now; base = base; need = need; run = run })) }
+    ensures said { SaidBy n count rows.now (record { weights = weights.now; base = base; need = need; run = run }) result }
 {
     let lent = *weights;
     let query = Query {
@@ -92,12 +92,12 @@ pub struct RunFound {
 
 // Runs the passage of a sheet given as numbers, as `passage::run` does, and looks through the rows that it wrote.
 pub fn run_and_find(sheet: Sheet, rows: &mut [i64], query: Query) -> RunFound
-    ensures* ended { λ r. ⌜ r.outcome ≡ (passage.passage sheet (length rows.old)).outcome ⌝ }
-    ensures* leaves { λ _. ⌜ Leaves sheet (passage.passage sheet (length rows.old)) rows.old rows.new ⌝ }
-    ensures* numbered { λ r. ⌜ Gives r.outcome (result (passage.passage sheet (length rows.old)).outcome) (refused_step (passage.passage sheet (length rows.old)).outcome) ⌝ }
-    ensures* found { λ r. ⌜ r.found ≡ clearance.first_clear sheet.head.n (passage.rows_written sheet r.outcome) rows.new query ⌝ }
-    ensures* said { λ r. ⌜ SaidOf sheet query rows.new r.outcome r.found ⌝ }
-    ensures* found_numbered { λ r. ⌜ clearance.Names r.found (clearance.first_clear sheet.head.n (passage.rows_written sheet r.outcome) rows.new query) ⌝ }
+    ensures ended { result.outcome ≡ (passage.passage sheet (length rows.old)).outcome }
+    ensures leaves { Leaves sheet (passage.passage sheet (length rows.old)) rows.old rows.new }
+    ensures numbered { Gives result.outcome (printed_result (passage.passage sheet (length rows.old)).outcome) (refused_step (passage.passage sheet (length rows.old)).outcome) }
+    ensures found { result.found ≡ clearance.first_clear sheet.head.n (passage.rows_written sheet result.outcome) rows.new query }
+    ensures said { SaidOf sheet query rows.new result.outcome result.found }
+    ensures found_numbered { clearance.Names result.found (clearance.first_clear sheet.head.n (passage.rows_written sheet result.outcome) rows.new query) }
 {
     let outcome = run(sheet, rows);
     let n = sheet.head.n;

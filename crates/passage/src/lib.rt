@@ -2,7 +2,7 @@
 #![tactic(auto)]
 
 ghost use Rattle.std.specs.Prelude.{◌≡◌, ◌≤◌, length};
-ghost use Rattle.model.specs.Sheet.{result, refused_step, Gives, most_quantities, listed, start_value, starts_of};
+ghost use Rattle.model.specs.Sheet.{result as printed_result, refused_step, Gives, most_quantities, listed, start_value, starts_of};
 ghost use Rattle.model.specs.Rows.{balls_of, laid_out, written};
 ghost use Rattle.model.specs.Passage as passage;
 ghost use Rattle.enclosure.specs.Trust.{Leaves};
@@ -18,7 +18,7 @@ use verdict::verdict;
 
 // A start's number of units. Where there is no reading the sheet is refused before this is asked.
 fn start_value(start: Start) -> i64
-    ensures* { λ r. ⌜ r ≡ start_value start ⌝ }
+    ensures { result ≡ start_value start }
 {
     match start {
         Start::Reading(value) => value,
@@ -29,7 +29,7 @@ fn start_value(start: Start) -> i64
 // The values and radii that the first step starts from, with 0 past n.
 fn starts_of(sheet: Sheet) -> Balls
     requires { sheet.head.n ≤ most_quantities }
-    ensures* { λ r. ⌜ r ≡ laid_out (starts_of sheet) ⌝ }
+    ensures { result ≡ laid_out (starts_of sheet) }
 {
     let mut values = [0i64; MOST_QUANTITIES];
     let mut radii = [0u64; MOST_QUANTITIES];
@@ -49,8 +49,8 @@ fn starts_of(sheet: Sheet) -> Balls
 // of coefficients that each step works in, are made once for all of them.
 fn run_steps(head: Head, terms: Terms, start: Balls, rows: &mut [i64]) -> Outcome
     requires { CanRun head (listed terms) rows.old }
-    ensures* ended { λ r. ⌜ r ≡ (passage.follow (listed terms) head.step head.tail head.tol head.steps 1 (balls_of head.n start)).outcome ⌝ }
-    ensures* put { λ _. ⌜ rows.new ≡ written (passage.follow (listed terms) head.step head.tail head.tol head.steps 1 (balls_of head.n start)).rows rows.old ⌝ }
+    ensures ended { result ≡ (passage.follow (listed terms) head.step head.tail head.tol head.steps 1 (balls_of head.n start)).outcome }
+    ensures put { rows.new ≡ written (passage.follow (listed terms) head.step head.tail head.tol head.steps 1 (balls_of head.n start)).rows rows.old }
 {
     let n = head.n;
     let steps = head.steps;
@@ -81,9 +81,9 @@ fn run_steps(head: Head, terms: Terms, start: Balls, rows: &mut [i64]) -> Outcom
 // Runs the passage of a sheet given as numbers, by its gathered terms. Refused by 3, 4 or 5, it leaves the buffer as it
 // is; refused at a step, it has written the rows before that step.
 pub fn run(sheet: Sheet, rows: &mut [i64]) -> Outcome
-    ensures* ended { λ r. ⌜ r ≡ (passage.passage sheet (length rows.old)).outcome ⌝ }
-    ensures* leaves { λ _. ⌜ Leaves sheet (passage.passage sheet (length rows.old)) rows.old rows.new ⌝ }
-    ensures* numbered { λ r. ⌜ Gives r (result (passage.passage sheet (length rows.old)).outcome) (refused_step (passage.passage sheet (length rows.old)).outcome) ⌝ }
+    ensures ended { result ≡ (passage.passage sheet (length rows.old)).outcome }
+    ensures leaves { Leaves sheet (passage.passage sheet (length rows.old)) rows.old rows.new }
+    ensures numbered { Gives result (printed_result (passage.passage sheet (length rows.old)).outcome) (refused_step (passage.passage sheet (length rows.old)).outcome) }
 {
     let refused = verdict(sheet);
     if let Outcome::Refused(_, _) = refused {
@@ -100,7 +100,7 @@ pub fn run(sheet: Sheet, rows: &mut [i64]) -> Outcome
 
 // How many rows the passage of a sheet has written.
 pub fn rows_written(sheet: Sheet, outcome: Outcome) -> usize
-    ensures* { λ r. ⌜ r ≡ passage.rows_written sheet outcome ⌝ }
+    ensures { result ≡ passage.rows_written sheet outcome }
 {
     match outcome {
         Outcome::Accepted => sheet.head.steps,
