@@ -86,7 +86,7 @@ unfolding certain worst
 uncertain_fails query row e cleared =
     false≢true (sym e ∙ le_test (le_unscaled (query.need *ℤ pos scale) (assured query row) scale_positive (rw (← comes_to query row) cleared.enough)))
 
--- the converse of `certain-clears`
+-- the converse of `certain_clears`
 pub clear_is_certain : (query : Query) (row : Row) → Ordered row → ((state : State) → LiesBetween row.spans state → Clears query state) → certain query row ≡ true
 clear_is_certain query row ordered clears = go (certain query row) refl
   where

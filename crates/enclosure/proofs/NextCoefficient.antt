@@ -1,5 +1,5 @@
 -- One more rounded coefficient encloses the exact summand of its order: two factors, the step, the term's coefficient, the sum over the
--- terms, each with its rounding. Nothing is used of `near` and `up` but `within-rounded`.
+-- terms, each with its rounding. Nothing is used of `near` and `up` but `within_rounded`.
 use Prim.Native.Nat.{ℕ, zero, suc, ◌+◌, ◌-◌, ◌*◌, ◌≤◌, ◌<◌}
 use mathlib.Core.Bool.{Bool, true, false, cond}
 use mathlib.Core.List.{List}

@@ -1,4 +1,4 @@
--- The names of the definitions, once: to unfold `every-definition` is to unfold each of them, which a proof by computation does.
+-- The names of the definitions, once: to unfold `EveryDefinition` is to unfold each of them, which a proof by computation does.
 use mathlib.Core.List.{flatten}
 use Rattle.rounding.specs.Rounding.{near, near_ℕ, up}
 use Rattle.ranges.specs.Range.{sum, sum_ℤ, largest, every, tabulate, least, bytes}

@@ -259,7 +259,7 @@ listed terms = tabulate terms.count (λ j. get_or terms.list j no_term)
 unfoldable pub terms_of : Sheet → List Term
 terms_of sheet = listed sheet.terms
 
--- a start is a number here: refusal 4 comes before any step, so that the second case does not occur (`start-is-read` of
+-- a start is a number here: refusal 4 comes before any step, so that the second case does not occur (`start_is_read` of
 -- crates/laws/proofs/Text/Readings.antt)
 unfoldable pub start_value : Start → ℤ
 start_value (Reading z) = z

@@ -1,4 +1,4 @@
--- A text that is read is the text of the sheet that it is read as, byte by byte: so each sheet has one text, and the reader takes no other. With `read-printed`
+-- A text that is read is the text of the sheet that it is read as, byte by byte: so each sheet has one text, and the reader takes no other. With `read_printed`
 -- this says which texts are accepted.
 use Prim.Native.Nat.{ℕ, zero, suc, ◌+◌, ◌-◌, ◌*◌, ◌/◌, ◌%◌, ◌<◌}
 use Prim.Native.Char.{code}
