@@ -8,8 +8,7 @@ use mir.Val.{SFits, to_z, of_z}
 use mir.Facts.{to_z-of_z}
 use Rattle.model.specs.Sheet.{within}
 use Rattle.model.specs.declared.Limits.{Limits}
-use Rattle.limits.proofs.within.Statement.{statement}
-use Rattle.limits.proofs.within.Tie as tie
+use Rattle.limits.proofs.within.Goals as goal
 
 -- the two tests on the bits are those of the definition, the second where the first holds
 module _ (limits : Limits) {z : ℤ} (low : SFits w64 limits.low) (high : SFits w64 limits.high) (number : SFits w64 z) where
@@ -21,15 +20,10 @@ module _ (limits : Limits) {z : ℤ} (low : SFits w64 limits.low) (high : SFits 
   unfolding within
   below h = rw (to_z-of_z number, to_z-of_z low, rw (to_z-of_z low, to_z-of_z number) at h)
 
-returns : tie.Need-returns
-returns c =
-    let given = c.before.before.struct_told.given in
-    above c.before.before.before.args.limits (record { sfits = given.0.1 }) (record { sfits = given.1.0.1 }) c.before.before.before.ranges.z c.if1.true
+pub returns-then-low-z : goal.returns-then-low-z
+returns-then-low-z c =
+    above c.args.limits (record { sfits = c.struct_told-1.given.0.1 }) (record { sfits = c.struct_told-1.given.1.0.1 }) c.ranges.z c.if-low-z.true
 
-returns-2 : tie.Need-returns-2
-returns-2 c =
-    let given = c.before.before.struct_told.given in
-    below c.before.before.before.args.limits (record { sfits = given.0.1 }) (record { sfits = given.1.0.1 }) c.before.before.before.ranges.z c.if1.false
-
-pub within-spec : {M : Type 1} → statement M
-within-spec = tie.close (tie.spec returns returns-2)
+pub returns-else-low-z : goal.returns-else-low-z
+returns-else-low-z c =
+    below c.args.limits (record { sfits = c.struct_told-1.given.0.1 }) (record { sfits = c.struct_told-1.given.1.0.1 }) c.ranges.z c.if-low-z.false
