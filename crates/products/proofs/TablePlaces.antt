@@ -75,7 +75,7 @@ module _ {k : ℕ} {values : List ℤ} {reaches : List ℕ} (small : Small k val
 
     pub value_kept : to_z w64 (of_z w64 (get_or values (place (number - 1) order) (pos 0))) ≡ (factor (table_in k values reaches) order number).value
     unfolding most
-    value_kept = rw (← value_in) (to_z-of_z (sfits_abs (omega (arith, value_le_reach (factor (table_in k values reaches) order number), factors_small order h number))))
+    value_kept = rw (← value_in) (to_z-of_z {w = w64} (sfits_abs (omega (arith, value_le_reach (factor (table_in k values reaches) order number), factors_small order h number))))
 
     pub reached_at : Reached (to_z w64 (of_z w64 (get_or values (place (number - 1) order) (pos 0)))) (get_or reaches (place (number - 1) order) 0)
     reached_at =

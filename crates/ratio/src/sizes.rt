@@ -44,6 +44,7 @@ pub fn largest_reach<'a>(
 }
 
 // How many factors a term has.
+#[tactic(auto, unfolding(model::specs::Step::factors))]
 fn factors(term: Term) -> usize
     ensures { result ≡ rule.factors term }
 {
@@ -57,6 +58,7 @@ fn factors(term: Term) -> usize
 }
 
 // What a term brings to a target's sum of |A| over its terms with so many factors.
+#[tactic(auto, unfolding(model::specs::Step::brings, model::specs::Step::coef_of))]
 fn coef_of(target: usize, count: usize, term: Term) -> u64
     ensures { result ≡ rule.brings target term (rule.coef_of count term) }
 {
@@ -70,6 +72,7 @@ fn coef_of(target: usize, count: usize, term: Term) -> u64
 }
 
 // Z0, Z1 or Z2: the sum of |A| over the target's terms with so many factors.
+#[tactic(auto, using(laws::proofs::Bounds::CountedTerms::few_listed))]
 fn coefs(target: usize, count: usize, terms: Terms) -> u64
     requires { Summable (listed terms) }
     ensures { result ≡ rule.coefs (listed terms) target count }

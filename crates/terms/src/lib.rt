@@ -16,6 +16,7 @@ fn same(first: usize, second: usize, other: usize, another: usize) -> bool
 }
 
 // Whether two terms have the same target and the same factors, in either order.
+#[tactic(auto, unfolding(model::specs::LikeTerms::like))]
 fn like(a: Term, b: Term) -> bool
     ensures { result ≡ rule.like a b }
 {
@@ -44,6 +45,7 @@ fn plus(term: Term, other: Term) -> Term
 
 // All like terms added. Each term is added to the first of the sums that it is like, or is the last of them itself. What
 // each turn compares stands in an array of this function's: a call would copy it.
+#[tactic(auto, using(laws::proofs::Bounds::CountedTerms::few_listed))]
 fn sum_like(terms: Terms) -> Terms
     requires { Summable (listed terms) }
     ensures { listed result ≡ rule.summed (listed terms) }
@@ -76,6 +78,7 @@ fn sum_like(terms: Terms) -> Terms
 }
 
 // Whether A is not 0.
+#[tactic(auto, unfolding(model::specs::LikeTerms::nonzero))]
 fn nonzero(term: Term) -> bool
     ensures { result ≡ rule.nonzero term }
 {

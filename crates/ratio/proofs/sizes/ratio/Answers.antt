@@ -12,15 +12,7 @@ use Rattle.model.specs.Step as rule
 use Rattle.ranges.proofs.Ranges.{largest_bounded}
 use Rattle.laws.proofs.Bounds.RatioNumbers.{size_of_sums_fits}
 use Rattle.ratio.specs.Ratio.{sum_at, Bounded, Reaching}
-use borrow.Author.Rules.{rules}
-use Rattle.ratio.proofs.sizes.ratio.Statement.{statement}
-use Rattle.ratio.proofs.sizes.ratio.Tie as tie
-
-returns : tie.Need-returns
-unfolding rule.ratio_by scale
-returns c =
-    let at-start = c.before.before.before in
-    c.up.ensures ∙ ap (λ (z : ℕ). up z scale) (ap₂ ◌*◌ c.before.before.largest_size.ensures (rw (to_z-of_z at-start.fits.step) at c.before.magnitude.ensures))
+use Rattle.ratio.proofs.sizes.ratio.Goals as goal
 
 -- b is at most 2^39, and |H| at most 2^24
 product_fits : {n G H : ℕ} {sums : List ℕ} → Bounded n sums → Reaching G → H ≤ scale → range.largest n (λ i. rule.size G (sum_at sums i)) * H ≤ 2 ^ 63
@@ -32,20 +24,11 @@ product_fits {n} {G} {H} {sums} bounded reaching h = mul-le-mul (largest_bounded
         unfold rule.size in
         size_of_sums_fits reaching.low reaching.high (bounded.each i l 0 (omega arith)) (bounded.each i l 1 (omega arith)) (bounded.each i l 2 (omega arith))
 
-largest-size-requires : tie.Need-largest-size-requires
-largest-size-requires c κs = c.pre.1
+pub overflow_mul-largest : goal.overflow_mul-largest
+overflow_mul-largest c =
+    omega (arith, ap₂ ◌*◌ c.largest_size-largest.ensures (rw (to_z-of_z c.ranges.step) at c.magnitude.ensures), product_fits c.requires.sized.bounded c.requires.sized.reaching c.requires.step_bound)
 
-magnitude-requires : tie.Need-magnitude-requires
-magnitude-requires c κs = search rules
-
-mul-up : tie.Need-mul-up
-mul-up c =
-    let at-start = c.before.before in
-    omega (arith, ap₂ ◌*◌ c.before.largest_size.ensures (rw (to_z-of_z at-start.fits.step) at c.magnitude.ensures), product_fits at-start.pre.1.bounded at-start.pre.1.reaching at-start.pre.0)
-
-up-requires : tie.Need-up-requires
-up-requires c κs = search rules
-
-pub ratio-spec : {M : Type 1} → statement M
-ratio-spec =
-    tie.close (tie.spec largest-size-requires magnitude-requires mul-up up-requires returns)
+pub returns : goal.returns
+unfolding rule.ratio_by scale
+returns c =
+    c.up.ensures ∙ ap (λ (z : ℕ). up z scale) (ap₂ ◌*◌ c.largest_size-largest.ensures (rw (to_z-of_z c.ranges.step) at c.magnitude.ensures))
