@@ -2,7 +2,7 @@
 -- highs, of any rows that a passage wrote and of a passage's own; of refusals only 9 and 3 are answers about those; a row that is named, by itself or as a
 -- number, opens a run, all of whose steps are clear all the way, with their beginnings and their ends.
 use Prim.Native.Nat.{ℕ, zero, suc, ◌+◌, ◌*◌, ◌≤◌, ◌<◌}
-use mathlib.Core.Bool.{true}
+use mathlib.Core.Bool.{true, false≢true}
 use mathlib.Core.List.{List}
 use mathlib.Core.Logic.{◌⊎◌, inl, inr}
 use mathlib.Core.Path.{◌≡◌, refl, sym, ap, ap₂, subst, ◌∙◌}
@@ -10,6 +10,7 @@ use native.Mathlib.Nat.{mul-one}
 use native.Mathlib.Omega.{arith}
 use lib.IntN.{ℤ, pos, negsuc, neg_ℤ, nat_abs, ◌*ℤ◌, one, *ℤ-one}
 use lib.ListN.{length, get_or}
+use lib.Signed.{non_neg}
 use Rattle.model.specs.Sheet.{scale, terms_of, starts_of, number}
 use Rattle.enclosure.specs.Exact.{State, exact_sum}
 use Rattle.model.specs.Passage.{rows_written}

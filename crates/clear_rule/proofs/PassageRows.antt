@@ -15,7 +15,7 @@ use lib.Seq.{length-take-le, get_or-take}
 use Rattle.ranges.specs.Range.{every}
 use Rattle.model.specs.Sheet.{most, most_steps, Verdict, passes, refuses, ask, ◌then◌, within, in_range, n_limits, head_verdict, sheet_verdict_to}
 use Rattle.model.specs.Step.{Row, no_row}
-use Rattle.model.specs.Rows.{width, values_part, radii_part, lows_part, highs_part, part_place, places, written, rows_in}
+use Rattle.model.specs.Rows.{width, values_part, radii_part, lows_part, highs_part, part_place, written, rows_in}
 use Rattle.enclosure.specs.RowRange.{Printable}
 use Rattle.model.specs.Passage.{Run, refused, passage, rows_written}
 use Rattle.model.specs.declared.Limits.{Limits}

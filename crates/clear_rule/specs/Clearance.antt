@@ -87,7 +87,7 @@ query_within n query =
     && within depth_limits query.need
     && within run_limits (pos query.run)
 
--- the n numbers of part p of row j are in the limits, as they stand in the buffer: there a radius may have a minus, of which `rowsIn` takes the magnitude
+-- the n numbers of part p of row j are in the limits, as they stand in the buffer: there a radius may have a minus, of which `rows_in` takes the magnitude
 unfoldable pub part_within : Limits → ℕ → List ℤ → ℕ → ℕ → Bool
 part_within limits n rows j p = every n (λ i. within limits (get_or rows (part_place n j p i) (pos 0)))
 
