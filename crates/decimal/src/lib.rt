@@ -56,6 +56,7 @@ pub fn put_front(text: &mut [u8], at: usize, bytes: &[u8]) -> usize
 }
 
 // The byte of a digit.
+#[tactic(auto, unfolding(model::specs::Answer::digit))]
 fn digit(number: u32) -> u8
     requires { number < 10 }
     ensures { result ≡ answer.digit number }
