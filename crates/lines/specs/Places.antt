@@ -1,5 +1,5 @@
 -- What the answers of a cursor say of its text: each answer is read as that of the definitions on the bytes from there.
--- Document 01 numbers lines alone (`lineGives` of `Fields`): a byte, a digit or a text that was found is a place in the text.
+-- Document 01 numbers lines alone (`line_gives` of `Fields`): a byte, a digit or a text that was found is a place in the text.
 use Rattle.std.specs.Prelude.{ℕ, ◌-◌, Bool, true, false, List, [], ◌∷◌, drop}
 use Prim.Native.Char.{code}
 use Rattle.std.proofs.Math.Option.{Option, some, none}
