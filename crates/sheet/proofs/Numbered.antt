@@ -15,8 +15,8 @@ unfolding refused_step
 before_steps high text Accepted e = refl
 before_steps high text (Refused r step) e = (refused_is_zeros high text e).before_steps
 
--- all that is promised of a reading
-pub numbered : (high : ℕ) (text : List ℕ) {r : ReadSheet} → r ≡ read_sheet_to high text → (r ≡ read_sheet_to high text) × Gives r.outcome (result (read_sheet_to high text).outcome) 0
+-- a reading's number, and no step
+pub numbered : (high : ℕ) (text : List ℕ) {r : ReadSheet} → r ≡ read_sheet_to high text → Gives r.outcome (result (read_sheet_to high text).outcome) 0
 numbered high text e =
     let same = ap (λ (r : ReadSheet). r.outcome) e in
-    (e, record { result_is = ap result same; step_is = ap refused_step same ∙ before_steps high text _ refl })
+    record { result_is = ap result same; step_is = ap refused_step same ∙ before_steps high text _ refl }

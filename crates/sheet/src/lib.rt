@@ -3,7 +3,8 @@
 
 ghost use Rattle.std.specs.Prelude.{◌≡◌, ◌≤◌};
 ghost use Rattle.model.specs.Reading as model;
-ghost use Rattle.model.specs.Sheet.{most_quantities, stored_steps, result, Gives, no_head};
+ghost use Rattle.model.specs.Sheet as sheet;
+ghost use Rattle.model.specs.Sheet.{most_quantities, stored_steps, Gives, no_head};
 ghost use Rattle.lines.specs.Places.{rest};
 
 use lines::Cursor;
@@ -15,8 +16,9 @@ use sheet_body::{no_quantity, read_quantities, read_terms};
 use sheet_head::{HeadLines, read_head};
 
 // The head of the sheet of zeros.
+#[tactic(auto, unfolding(model::specs::Sheet::no_head))]
 fn no_head() -> Head
-    ensures* { λ r. ⌜ r ≡ no_head ⌝ }
+    ensures { result ≡ no_head }
 {
     Head {
         n: 0,
@@ -29,7 +31,7 @@ fn no_head() -> Head
 
 // A refused sheet: its refusal, and the sheet of zeros.
 fn refused(refusal: Refusal) -> ReadSheet
-    ensures* { λ r. ⌜ r ≡ model.accepted (model.Parsed.fault refusal) ⌝ }
+    ensures { result ≡ model.accepted (model.Parsed.fault refusal) }
 {
     let no_quantity = no_quantity();
     let no_term = no_term();
@@ -49,7 +51,7 @@ fn refused(refusal: Refusal) -> ReadSheet
 // What follows a head: the quantities, the terms, and no byte more.
 fn read_body(text: &[u8], head: Head, from: Cursor) -> ReadSheet
     requires { head.n ≤ most_quantities }
-    ensures* { λ r. ⌜ r ≡ model.accepted (model.body head (rest text.now from)) ⌝ }
+    ensures { result ≡ model.accepted (model.body head (rest text.now from)) }
 {
     let n = head.n;
     let quantities = read_quantities(text, n, from);
@@ -81,7 +83,7 @@ fn read_body(text: &[u8], head: Head, from: Cursor) -> ReadSheet
 
 // The reading of a sheet, with at most so many steps: question 1, then its lines from the top.
 fn read_to(text: &[u8], most: u32) -> ReadSheet
-    ensures* { λ r. ⌜ r ≡ model.read_sheet_to most text.now ⌝ }
+    ensures { result ≡ model.read_sheet_to most text.now }
 {
     if MOST_BYTES < text.len() {
         return refused(Refusal::Oversized);
@@ -95,16 +97,16 @@ fn read_to(text: &[u8], most: u32) -> ReadSheet
 
 // The reading of a sheet.
 pub fn read(text: &[u8]) -> ReadSheet
-    ensures* whole { λ r. ⌜ r ≡ model.read_sheet text.now ⌝ }
-    ensures* numbered { λ r. ⌜ Gives r.outcome (result (model.read_sheet text.now).outcome) 0 ⌝ }
+    ensures whole { result ≡ model.read_sheet text.now }
+    ensures numbered { Gives result.outcome (sheet.result (model.read_sheet text.now).outcome) 0 }
 {
     read_to(text, MOST_STEPS as u32)
 }
 
 // The reading of a stored sheet, which may have more steps.
 pub fn read_stored(text: &[u8]) -> ReadSheet
-    ensures* whole { λ r. ⌜ r ≡ model.read_sheet_to stored_steps text.now ⌝ }
-    ensures* numbered { λ r. ⌜ Gives r.outcome (result (model.read_sheet_to stored_steps text.now).outcome) 0 ⌝ }
+    ensures whole { result ≡ model.read_sheet_to stored_steps text.now }
+    ensures numbered { Gives result.outcome (sheet.result (model.read_sheet_to stored_steps text.now).outcome) 0 }
 {
     read_to(text, STORED_STEPS as u32)
 }

@@ -9,9 +9,7 @@ use Rattle.model.specs.declared.Head.{Head}
 use Rattle.model.specs.declared.Quantity.{Quantity}
 use Rattle.model.specs.declared.Term.{Term}
 use Rattle.model.specs.declared.ReadSheet.{ReadSheet}
-use borrow.Author.Rules.{rules}
-use Rattle.sheet.proofs.refused.Statement.{statement}
-use Rattle.sheet.proofs.refused.Tie as tie
+use Rattle.sheet.proofs.refused.Goals as goal
 
 -- a refusal before step 1, and a sheet of zeros over three records
 abbrev refused_with : Refusal → Head → Quantity → Term → ReadSheet
@@ -30,17 +28,5 @@ zeros : (refusal : Refusal) {head : Head} {quantity : Quantity} {term : Term} �
 unfolding accepted no_sheet quantities_held terms_held padded
 zeros refusal h q t = rw (h, q, t)
 
-returns : tie.Need-returns
-returns c = zeros c.before.before.before.args.refusal c.no_head.ensures c.before.before.no_quantity.ensures c.before.no_term.ensures
-
-no-quantity-requires : tie.Need-no-quantity-requires
-no-quantity-requires c κs = search rules
-
-no-term-requires : tie.Need-no-term-requires
-no-term-requires c κs = search rules
-
-no-head-requires : tie.Need-no-head-requires
-no-head-requires c κs = search rules
-
-pub refused-spec : {M : Type 1} → statement M
-refused-spec = tie.close (tie.spec no-quantity-requires no-term-requires no-head-requires returns)
+pub returns : goal.returns
+returns c = zeros c.args.refusal c.no_head.ensures c.no_quantity-no_quantity.ensures c.no_term-no_term.ensures
