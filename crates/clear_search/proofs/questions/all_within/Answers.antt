@@ -1,12 +1,9 @@
 -- `clear_search::questions::all_within` meets its contract. The loop stops at the first number outside.
-use Prim.Native.Nat.{◌-◌}
-use mathlib.Core.Bool.{true}
-use mathlib.Core.Path.{◌≡◌, sym, ◌∙◌}
+use mathlib.Core.Path.{sym, ◌∙◌}
 use native.Mathlib.Omega.{arith}
 use borrow.Author.Rules.{rules}
 use mir.Syntax.{w64}
 use Rattle.rounding.proofs.Machine.{of_number}
-use Rattle.ranges.specs.Range as range
 use Rattle.model.specs.Sheet.{within}
 use Rattle.ranges.proofs.EveryLaws.{every_none, every_more, every_fails}
 use Rattle.clear_search.proofs.questions.all_within.Invariants.{asked}

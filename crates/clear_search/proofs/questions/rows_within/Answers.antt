@@ -1,9 +1,6 @@
 -- `clear_search::questions::rows_within` meets its contract. The loop stops at the first row with a number outside.
-use Prim.Native.Nat.{◌-◌}
-use mathlib.Core.Bool.{true}
 use mathlib.Core.Path.{sym, ◌∙◌}
 use native.Mathlib.Omega.{arith}
-use Rattle.ranges.specs.Range as range
 use Rattle.ranges.proofs.EveryLaws.{every_none, every_more, every_fails}
 use Rattle.clear_rule.specs.Clearance.{row_within}
 use Rattle.clear_search.proofs.questions.rows_within.Goals as goal
