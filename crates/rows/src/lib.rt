@@ -31,6 +31,7 @@ pub const HIGHS: usize = 3;
 pub const ROWS_LENGTH: usize = MOST_STEPS * (PARTS * MOST_QUANTITIES + 1);
 
 // How many places a row of n quantities takes.
+#[tactic(auto, unfolding(model::specs::Rows::width))]
 pub fn width(n: usize) -> usize
     requires { n ≤ most_quantities }
     ensures { result ≡ layout.width n }
@@ -93,6 +94,7 @@ pub fn put_row(rows: &mut [i64], n: usize, row: usize, degree: usize, balls: Bal
 }
 
 // The degree of a row.
+#[tactic(auto, unfolding(model::specs::Rows::row_in, model::specs::Rows::width))]
 pub fn degree_at(rows: &[i64], n: usize, row: usize) -> u64
     requires { HasRow n row rows.now }
     ensures { result ≡ (layout.row_in n rows.now row).degree }
@@ -101,6 +103,7 @@ pub fn degree_at(rows: &[i64], n: usize, row: usize) -> u64
 }
 
 // The value of quantity i of a row.
+#[tactic(auto, using(crate::proofs::Places::value_read))]
 pub fn value_at(rows: &[i64], n: usize, row: usize, i: usize) -> i64
     requires has_row { HasRow n row rows.now }
     requires i_lt_n { i < n }
@@ -110,6 +113,7 @@ pub fn value_at(rows: &[i64], n: usize, row: usize, i: usize) -> i64
 }
 
 // The radius of quantity i of a row.
+#[tactic(auto, using(crate::proofs::Places::radius_read))]
 pub fn radius_at(rows: &[i64], n: usize, row: usize, i: usize) -> u64
     requires has_row { HasRow n row rows.now }
     requires i_lt_n { i < n }
@@ -119,6 +123,7 @@ pub fn radius_at(rows: &[i64], n: usize, row: usize, i: usize) -> u64
 }
 
 // The low of quantity i of a row.
+#[tactic(auto, using(crate::proofs::Places::low_read))]
 pub fn low_at(rows: &[i64], n: usize, row: usize, i: usize) -> i64
     requires has_row { HasRow n row rows.now }
     requires i_lt_n { i < n }
@@ -128,6 +133,7 @@ pub fn low_at(rows: &[i64], n: usize, row: usize, i: usize) -> i64
 }
 
 // The high of quantity i of a row.
+#[tactic(auto, using(crate::proofs::Places::high_read))]
 pub fn high_at(rows: &[i64], n: usize, row: usize, i: usize) -> i64
     requires has_row { HasRow n row rows.now }
     requires i_lt_n { i < n }

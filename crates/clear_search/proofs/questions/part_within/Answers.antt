@@ -4,7 +4,6 @@ use mathlib.Core.Bool.{Bool}
 use mathlib.Core.List.{List}
 use mathlib.Core.Path.{◌≡◌, ap, ◌∙◌}
 use native.Mathlib.Omega.{arith}
-use borrow.Author.Rules.{rules}
 use lib.IntN.{ℤ, pos}
 use lib.ListN.{length, get_or}
 use Rattle.ranges.specs.Range.{every}
@@ -14,8 +13,7 @@ use Rattle.model.specs.declared.Limits.{Limits}
 use Rattle.rows.proofs.Places.{part_fits}
 use Rattle.rows.specs.Room.{HasRow}
 use Rattle.clear_rule.specs.Clearance.{part_within}
-use Rattle.clear_search.proofs.questions.part_within.Statement.{statement}
-use Rattle.clear_search.proofs.questions.part_within.Tie as tie
+use Rattle.clear_search.proofs.questions.part_within.Goals as goal
 
 module _ (n j p : ℕ) {at : ℕ} (place : at ≡ part_place n j p 0) where
   -- the numbers from its first place
@@ -30,17 +28,11 @@ module _ (n j p : ℕ) {at : ℕ} (place : at ≡ part_place n j p 0) where
   room : {buffer : List ℤ} → p < parts → HasRow n j buffer → at + n ≤ length buffer
   room h held = omega (arith, place, held.room, part_fits n j p h)
 
-returns : tie.Need-returns
+pub all_within-requires : goal.all_within-requires
+all_within-requires c =
+    room c.args.n c.args.row c.args.part c.part_place.ensures c.requires.part_lt_parts c.requires.has_row
+
+pub returns : goal.returns
 returns c =
-    let args = c.before.before.args in
-    asked args.n args.row args.part c.before.part-place.ensures args.limits args.rows.now c.all-within.ensures
-
-part-place-requires : tie.Need-part-place-requires
-part-place-requires c κs = search rules
-
-all-within-requires : tie.Need-all-within-requires
-all-within-requires c κs =
-    room c.before.args.n c.before.args.row c.before.args.part c.part-place.ensures c.before.pre.1 c.before.pre.0
-
-pub part-within-spec : {M : Type 1} → statement M
-part-within-spec = tie.close (tie.spec part-place-requires all-within-requires returns)
+    let args = c.args in
+    asked args.n args.row args.part c.part_place.ensures args.limits args.rows.now c.all_within.ensures

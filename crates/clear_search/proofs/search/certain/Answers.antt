@@ -15,8 +15,7 @@ use Rattle.clear_rule.specs.Asked.{Weighable}
 use Rattle.clear_rule.specs.Clearance.{assured, certain}
 use Rattle.clear_rule.specs.declared.Query.{Query}
 use Rattle.clear_rule.proofs.SumsFit.{query_ranges, row_ranges, need_fits}
-use Rattle.clear_search.proofs.search.certain.Statement.{statement}
-use Rattle.clear_search.proofs.search.certain.Tie as tie
+use Rattle.clear_search.proofs.search.certain.Goals as goal
 
 module _ (n j : ℕ) (buffer : List ℤ) (query : Query) (w : Weighable n j buffer query) (f : SFits w64 query.need) where
   need_is : to_z w64 (of_z w64 query.need) *ℤ pos scale ≡ query.need *ℤ pos scale
@@ -29,23 +28,12 @@ module _ (n j : ℕ) (buffer : List ℤ) (query : Query) (w : Weighable n j buff
   unfolding certain
   enough g e = ap₂ le_z (bits_are need_is (need_fits w.place.few (query_ranges n query w.query_is_within) (row_ranges n buffer j w.row_is_within))) (to_z-of_z g ∙ e)
 
-returns : tie.Need-returns
+pub overflow_mul-need : goal.overflow_mul-need
+unfolding scale
+overflow_mul-need c =
+    need_held c.args.n c.args.row c.args.rows.now c.args.query c.requires (search rules)
+
+pub returns : goal.returns
 unfolding scale
 returns c =
-    let at-start = c.before.before.before in
-    enough at-start.args.n at-start.args.row at-start.args.rows.now at-start.args.query at-start.requires (record { sfits = c.before.struct_told.given.1.1.0.1 }) (record { sfits = c.assured.type-inv }) c.assured.ensures
-
-mul-need : tie.Need-overflow-mul-need
-unfolding scale
-mul-need c =
-    let at-start = c.before.before in
-    need_held at-start.args.n at-start.args.row at-start.args.rows.now at-start.args.query at-start.requires (record { sfits = c.struct_told.given.1.1.0.1 })
-
-cast-need : tie.Need-overflow-cast-need
-cast-need c = search rules
-
-assured-requires : tie.Need-assured-requires
-assured-requires c κs = search rules
-
-pub certain-spec : {M : Type 1} → statement M
-certain-spec = tie.close (tie.spec cast-need mul-need assured-requires returns)
+    enough c.args.n c.args.row c.args.rows.now c.args.query c.requires (search rules) (record { sfits = c.assured.type_inv }) c.assured.ensures
