@@ -25,6 +25,7 @@ pub const N: Limits = Limits {
 };
 
 // steps: 1 up to the most that are taken.
+#[tactic(auto, unfolding(model::specs::Sheet::steps_limits))]
 pub fn steps_limits(most: u32) -> Limits
     ensures { result ≡ model.steps_limits most }
 {
@@ -75,6 +76,7 @@ pub const TERMS: Limits = Limits {
 };
 
 // `to` names one of the n quantities.
+#[tactic(auto, unfolding(model::specs::Sheet::to_limits))]
 pub fn to_limits(n: u32) -> Limits
     ensures { result ≡ model.to_limits n }
 {
@@ -88,6 +90,7 @@ pub const COEF: Limits = Limits {
 };
 
 // A factor names one of the n quantities, or is 0: no factor.
+#[tactic(auto, unfolding(model::specs::Sheet::first_limits))]
 pub fn first_limits(n: u32) -> Limits
     ensures { result ≡ model.first_limits n }
 {
@@ -95,6 +98,7 @@ pub fn first_limits(n: u32) -> Limits
 }
 
 // Where `first` is 0, any `second` but 0 is out of range.
+#[tactic(auto, unfolding(model::specs::Sheet::first_limits, model::specs::Sheet::second_limits))]
 pub fn second_limits(n: u32, first: usize) -> Limits
     ensures { result ≡ model.second_limits n first }
 {

@@ -44,24 +44,24 @@ module _ (text : List ℕ) where
   line_gives_lem (Number z next) = refl
   line_gives_lem Wrong = refl
 
-  whole_gives : (r : WholeLine) → whole_gives r ≡ gives (pos 0) (whole_read text r)
+  whole_gives_lem : (r : WholeLine) → whole_gives r ≡ gives (pos 0) (whole_read text r)
   unfolding whole_gives gives whole_read
-  whole_gives (whole.Holds field) = refl
-  whole_gives (whole.Fault r) = refl
+  whole_gives_lem (whole.Holds field) = refl
+  whole_gives_lem (whole.Fault r) = refl
 
-  natural_gives : (r : NaturalLine) → natural_gives r ≡ gives 0 (natural_read text r)
+  natural_gives_lem : (r : NaturalLine) → natural_gives r ≡ gives 0 (natural_read text r)
   unfolding natural_gives gives natural_read
-  natural_gives (natural.Holds field) = refl
-  natural_gives (natural.Fault r) = refl
+  natural_gives_lem (natural.Holds field) = refl
+  natural_gives_lem (natural.Fault r) = refl
 
-  -- all that is promised of a line ..
-  pub line_numbered : (r : Spelled) (key : List ℕ) (minus : Bool) (l : List ℕ) → spelled_at text r ≡ line_after key minus l → (spelled_at text r ≡ line_after key minus l) × (line_gives r ≡ gives (pos 0) (line_asked key minus l))
+  -- of a line ..
+  pub line_numbered : (r : Spelled) (key : List ℕ) (minus : Bool) (l : List ℕ) → spelled_at text r ≡ line_after key minus l → line_gives r ≡ gives (pos 0) (line_asked key minus l)
   unfolding line_asked
-  line_numbered r key minus l e = (e, line_gives_lem r ∙ ap (λ x. gives (pos 0) (ranged (λ z. true) x)) e)
+  line_numbered r key minus l e = line_gives_lem r ∙ ap (λ x. gives (pos 0) (ranged (λ z. true) x)) e
 
   -- .. and of a field
-  pub whole_numbered : (r : WholeLine) {meant : Parsed ℤ} → whole_read text r ≡ meant → (whole_read text r ≡ meant) × (whole_gives r ≡ gives (pos 0) meant)
-  whole_numbered r e = (e, whole_gives r ∙ ap (gives (pos 0)) e)
+  pub whole_numbered : (r : WholeLine) {meant : Parsed ℤ} → whole_read text r ≡ meant → whole_gives r ≡ gives (pos 0) meant
+  whole_numbered r e = whole_gives_lem r ∙ ap (gives (pos 0)) e
 
-  pub natural_numbered : (r : NaturalLine) {meant : Parsed ℕ} → natural_read text r ≡ meant → (natural_read text r ≡ meant) × (natural_gives r ≡ gives 0 meant)
-  natural_numbered r e = (e, natural_gives r ∙ ap (gives 0) e)
+  pub natural_numbered : (r : NaturalLine) {meant : Parsed ℕ} → natural_read text r ≡ meant → natural_gives r ≡ gives 0 meant
+  natural_numbered r e = natural_gives_lem r ∙ ap (gives 0) e

@@ -44,6 +44,7 @@ pub enum After {
 }
 
 // Whether a byte is one of 0 to 9.
+#[tactic(auto, unfolding(model::specs::Reading::is_digit))]
 fn is_digit(b: u8) -> bool
     ensures { result ≡ model.is_digit b }
 {
@@ -64,6 +65,7 @@ impl Cursor {
     }
 
     // Whether nothing is left.
+    #[tactic(auto, unfolding(crate::specs::Places::byte_read, crate::specs::Places::empty))]
     pub fn at_end(self, text: &[u8]) -> bool
         ensures { result ≡ empty (rest text.now self) }
     {
@@ -149,6 +151,7 @@ impl Cursor {
     }
 
     // A number, before which a minus may be allowed.
+    #[tactic(auto, unfolding(crate::specs::Places::spelling))]
     fn number(self, text: &[u8], minus: bool) -> Spelled
         ensures { spelled_at text.now result ≡ spelling minus (rest text.now self) }
     {

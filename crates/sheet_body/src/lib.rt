@@ -73,6 +73,7 @@ fn read_quantity(text: &[u8], from: Cursor) -> QuantityLines
 }
 
 // What stands past the last quantity.
+#[tactic(auto, unfolding(model::specs::Sheet::no_quantity))]
 pub fn no_quantity() -> Quantity
     ensures { result ≡ no_quantity }
 {

@@ -29,12 +29,12 @@ pub heads_give :
 unfolding EveryDefinition head_gives
 heads_give = (refl, refl)
 
+-- an answer that is read as what the definitions parse has its number and its values
 module _ (text : List ℕ) where
-  head_gives : (r : HeadLines) → head_gives r ≡ gives no_head (head_read text r)
+  head_gives_lem : (r : HeadLines) → head_gives r ≡ gives no_head (head_read text r)
   unfolding head_gives gives head_read
-  head_gives (Hold head next) = refl
-  head_gives (Fault r) = refl
+  head_gives_lem (Hold head next) = refl
+  head_gives_lem (Fault r) = refl
 
-  -- all that is promised of an answer
-  pub head_numbered : (r : HeadLines) {meant : Parsed Head} → head_read text r ≡ meant → (head_read text r ≡ meant) × (head_gives r ≡ gives no_head meant)
-  head_numbered r e = (e, head_gives r ∙ ap (gives no_head) e)
+  pub head_numbered : (r : HeadLines) {meant : Parsed Head} → head_read text r ≡ meant → head_gives r ≡ gives no_head meant
+  head_numbered r e = head_gives_lem r ∙ ap (gives no_head) e

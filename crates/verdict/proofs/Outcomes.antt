@@ -1,14 +1,12 @@
 -- Questions one after the other, as outcomes: what the outcome of a verdict says of the verdict.
 use Prim.Native.Nat.{ℕ, zero, suc, ◌+◌, ◌<◌}
-use mathlib.Core.Path.{◌≡◌, refl, sym, ap, ◌∙◌}
-use mathlib.Core.Bool.{Bool, true, false, not}
+use mathlib.Core.Path.{◌≡◌, refl, ◌∙◌}
+use mathlib.Core.Bool.{Bool, true, false}
 use native.Mathlib.Omega.{arith}
 use native.Mathlib.Numerals.{add-one}
-use borrow.Author.Tests.{ltb-true, ltb-false, not-true, not-false}
+use borrow.Author.Tests.{ltb-true, ltb-false}
 use lib.Dec.{ltb}
-use lib.IntN.{ℤ}
-use Rattle.model.specs.Sheet.{result, refused_step, Gives, Verdict, passes, refuses, verdict_number, verdict_outcome, ◌then◌, in_order, within}
-use Rattle.model.specs.declared.Limits.{Limits}
+use Rattle.model.specs.Sheet.{result, refused_step, Gives, Verdict, passes, refuses, verdict_number, verdict_outcome, ◌then◌, in_order}
 use Rattle.model.specs.declared.Refusal.{Refusal}
 use Rattle.model.specs.declared.Outcome.{Outcome}
 use Rattle.model.specs.declared.Outcome.TheVariants.{Accepted, Refused}
@@ -32,17 +30,6 @@ module _ (earlier later : Verdict) {o : Outcome} (stands : o ≡ verdict_outcome
   pub passed_first : o ≡ Accepted → verdict_outcome (earlier then later) ≡ verdict_outcome later
   unfolding ◌then◌
   passed_first e = rw (passes_as earlier stands e)
-
--- the answer to a range question, from the call that was asked it: `if !answer` was taken, or left
-module _ {held limits : Limits} (z : ℤ) {answer : Bool} (asked : answer ≡ within held z) (same : held ≡ limits) where
-  pub answer_is : within limits z ≡ answer
-  answer_is = sym (ap (λ (l : Limits). within l z) same) ∙ sym asked
-
-  pub answered_no : not answer ≡ true → within limits z ≡ false
-  answered_no taken = answer_is ∙ not-true answer taken
-
-  pub answered_yes : not answer ≡ false → within limits z ≡ true
-  answered_yes left = answer_is ∙ not-false answer left
 
 -- ---- f 0, .., f (n - 1), one after the other
 
@@ -70,6 +57,5 @@ unfolding verdict_outcome verdict_number result refused_step
 number_of passes = record { result_is = refl; step_is = refl }
 number_of (refuses r) = record { result_is = refl; step_is = refl }
 
--- all that is promised of a verdict
-pub verdict_numbered : (v : Verdict) {o : Outcome} → o ≡ verdict_outcome v → (o ≡ verdict_outcome v) × Gives o (verdict_number v) 0
-verdict_numbered v e = (e, rw e (number_of v))
+pub verdict_numbered : (v : Verdict) {o : Outcome} → o ≡ verdict_outcome v → Gives o (verdict_number v) 0
+verdict_numbered v e = rw e (number_of v)

@@ -10,6 +10,7 @@ use model::{
 };
 
 // Whether a number is in its range, as an outcome.
+#[tactic(auto, unfolding(model::specs::Sheet::ask, model::specs::Sheet::verdict_outcome))]
 fn in_range(answer: bool) -> Outcome
     ensures { result ≡ verdict_outcome (ask answer Refusal.OutOfRange) }
 {
