@@ -136,7 +136,7 @@ pub fn put_run(text: &mut [u8], n: usize, count: usize, rows: &[i64], outcome: O
     requires rows_printable { RowsPrintable n count rows.now }
     requires count_le_most_steps { count ≤ most_steps }
     requires outcome_bound { refused_step outcome ≤ most_steps }
-    ensures { Printed text.old (answer.run_text (record { rows = rows_in n count rows.entry.now; outcome = outcome })) result text.new }
+    ensures { Printed text.old (answer.run_text (record { rows = rows_in n count rows.now; outcome = outcome })) result text.new }
 {
     let end = put_rows(text, n, count, rows);
     put_outcome(text, end, outcome)
