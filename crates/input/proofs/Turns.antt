@@ -3,7 +3,6 @@ use Rattle.std.proofs.Common.{◌≡◌, ℕ, zero, suc, ◌≤◌, ◌<◌, min
 use native.Mathlib.Nat.{min-le_right}
 use Rattle.input.specs.Counted.{counted, readable, bytes_more, turn_of}
 use Rattle.input.specs.declared.Input.TheVariants.{Bytes, Unreadable}
-use Rattle.input.specs.declared.Turn.{Turn}
 use Rattle.input.specs.declared.Turn.TheVariants.{More, End, Failed}
 
 -- answers of reads with room for five bytes, and what an input came to

@@ -7,10 +7,9 @@
 ghost use Rattle.std.specs.Prelude.{◌^◌, ◌≤◌, ◌<◌, nat_abs, length, IfOk};
 ghost use Rattle.printing.specs.Pieces.{Room, line_of};
 
-use std::io;
-
 use decimal::put_line;
 use lines::{Cursor, Spelled};
+use std::io;
 
 // The most bytes of a line: number=-4294967295 with its line feed.
 const MOST_LINE: usize = 19;
