@@ -83,26 +83,26 @@ A_ROW = A.row()
 
 # a theorem's name: the sheet, the row that the wrong rule writes, the start in wholes and the degree of the exact sum
 ROWS = {
-    "forward-row": (BACK, A_ROW, [1], 2),
-    "value-alone": (A, (*A_ROW[:2], [0]), [1], 3),
-    "without-tail": (A, A.row(degree_and_tail=without_tail), [1], 3),
-    "tail-of-one-order": (A, A.row(degree_and_tail=tailed(lambda power, q: power)), [1], 4),
-    "tail-rounded-down": (UNIT, UNIT.row(degree_and_tail=tailed(lambda power, q: floor(Fraction(power * SCALE, SCALE - q)))), [1], 2),
-    "ratio-to-nearest": (STEEPER, STEEPER.row(ratio=nearest_ratio), [1], 2),
-    "ratio-of-a-forecast-alone": (BACK, BACK.row(ratio=forecast_ratio), [1], 1),
-    "greatest-from-values-alone": (WIDE, WIDE.row(common_scale=lambda values, radii: max([SCALE, *map(abs, values)])), [2], 1),
-    "radii-of-a-forecast-alone": (BACKWARD, BACKWARD.row(times=forecast_radii), [1], 1),
-    "next-step-from-radius-0": (STILL, Sheet([0], [0], [], 1, 2).row(), [Fraction(5, SCALE)], 0),
-    "without-its-one": (SEVEN, SEVEN.row(times=without_one), [1] * 6, 1),
+    "forward_row": (BACK, A_ROW, [1], 2),
+    "value_alone": (A, (*A_ROW[:2], [0]), [1], 3),
+    "without_tail": (A, A.row(degree_and_tail=without_tail), [1], 3),
+    "tail_of_one_order": (A, A.row(degree_and_tail=tailed(lambda power, q: power)), [1], 4),
+    "tail_rounded_down": (UNIT, UNIT.row(degree_and_tail=tailed(lambda power, q: floor(Fraction(power * SCALE, SCALE - q)))), [1], 2),
+    "ratio_to_nearest": (STEEPER, STEEPER.row(ratio=nearest_ratio), [1], 2),
+    "ratio_of_a_forecast_alone": (BACK, BACK.row(ratio=forecast_ratio), [1], 1),
+    "greatest_from_values_alone": (WIDE, WIDE.row(common_scale=lambda values, radii: max([SCALE, *map(abs, values)])), [2], 1),
+    "radii_of_a_forecast_alone": (BACKWARD, BACKWARD.row(times=forecast_radii), [1], 1),
+    "next_step_from_radius_0": (STILL, Sheet([0], [0], [], 1, 2).row(), [Fraction(5, SCALE)], 0),
+    "without_its_one": (SEVEN, SEVEN.row(times=without_one), [1] * 6, 1),
 }
 
 
 def stands(text, name, degree, value, radius):
     """Whether the theorem of this name is about a row with these numbers."""
     statement = re.search(rf"^pub {name} : (.*)$", text, re.M)[1]
-    if "row-of" in statement:
-        return re.findall(r"row-of (\d+) \(pos (\d+)\) (\d+)", statement)[-1] == (str(degree), str(value), str(radius))
-    about = re.search(r"^about-one = record \{ value = pos (\d+); radius = (\d+) \}$", text, re.M)
+    if "row_of" in statement:
+        return re.findall(r"row_of (\d+) \(pos (\d+)\) (\d+)", statement)[-1] == (str(degree), str(value), str(radius))
+    about = re.search(r"^about_one = record \{ value = pos (\d+); radius = (\d+) \}$", text, re.M)
     return f"degree = {degree};" in statement and about.groups() == (str(value), str(radius))
 
 
@@ -114,7 +114,7 @@ def main():
         same = stands(text, name, degree, values[0], radii[0])
         good += same and outside > 0
         print(f"{name}: degree {degree}, value {values[0]}, radius {radii[0]}; of degree {high} the exact sum lies {float(outside):.9g} units outside{'' if same else ': ANOTHER ROW THERE'}")
-    proved = re.findall(r"^pub ([\w-]+) : TrustedOf .* → ⊥$", text, re.M)
+    proved = re.findall(r"^pub (\w+) : TrustedOf .* → ⊥$", text, re.M)
     print(f"{good} of {len(proved)} rows that are not trusted")
     return 0 if good == len(ROWS) == len(proved) else 1
 
