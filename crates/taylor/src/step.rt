@@ -40,6 +40,7 @@ pub struct Stepped {
 }
 
 // A step that is refused.
+#[tactic(auto, unfolding(crate::specs::StepAnswers::answered, crate::specs::StepAnswers::advance_of, model::specs::Rows::no_spans, model::specs::Rows::spans_laid_out, model::specs::Sheet::padded))]
 pub fn stopped(refusal: Refusal, start: Balls) -> Stepped
     ensures { result ≡ answered start (passage.stops refusal) }
 {
