@@ -12,6 +12,7 @@ use rows::{radius_at, value_at};
 use sheet_body::no_quantity;
 
 // The same with so many steps.
+#[tactic(auto, unfolding(stored::specs::Conversion::with_steps))]
 fn with_steps(head: Head, steps: usize) -> Head
     ensures { result ≡ model.with_steps steps head }
 {
@@ -25,6 +26,7 @@ fn with_steps(head: Head, steps: usize) -> Head
 }
 
 // The first steps of a sheet, as many as a passage may have.
+#[tactic(auto, unfolding(stored::specs::Conversion::first_part))]
 pub fn first_part(sheet: Sheet) -> Sheet
     ensures { result ≡ model.first_part most_steps sheet }
 {
