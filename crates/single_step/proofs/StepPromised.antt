@@ -49,9 +49,19 @@ module _ (sheet : Sheet) (start : Balls) where
   abbrev meant : Advance
   meant = step_of sheet balls
 
-  pub step_promised : {stepped : Stepped} → stepped ≡ answered start meant → (stepped ≡ answered start meant) × (Numbered stepped.advance (advance_of meant) × (Trusted (terms_of sheet) sheet.head.step sheet.head.tol balls (rows_given n stepped) × Spanned (terms_of sheet) sheet.head.step balls (rows_given n stepped)))
+  pub step_promised : {stepped : Stepped} → stepped ≡ answered start meant → record {
+    whole : stepped ≡ answered start meant;
+    numbered : Numbered stepped.advance (advance_of meant);
+    trusted : Trusted (terms_of sheet) sheet.head.step sheet.head.tol balls (rows_given n stepped);
+    spanned : Spanned (terms_of sheet) sheet.head.step balls (rows_given n stepped);
+  }
   step_promised {stepped} e =
-      (e, (numbered (ap (λ (s : Stepped). s.advance) e), (rw (e, given) (step_trusted sheet balls), rw (e, given) (step_spanned sheet balls))))
+      record {
+        whole = e;
+        numbered = by_number (ap (λ (s : Stepped). s.advance) e);
+        trusted = rw (e, given) (step_trusted sheet balls);
+        spanned = rw (e, given) (step_spanned sheet balls);
+      }
     where
       given : rows_given n (answered start meant) ≡ rows_moved meant
       given = given_is_moved n start meant (step_quantities sheet balls n (length_balls n start.values start.radii))
@@ -60,5 +70,5 @@ module _ (sheet : Sheet) (start : Balls) where
       advance_is (moves row) = unfold answered in refl
       advance_is (stops r) = unfold answered in refl
 
-      numbered : stepped.advance ≡ (answered start meant).advance → Numbered stepped.advance (advance_of meant)
-      numbered is = rw (is, advance_is meant) (record { number_is = refl; degree_is = refl })
+      by_number : stepped.advance ≡ (answered start meant).advance → Numbered stepped.advance (advance_of meant)
+      by_number is = rw (is, advance_is meant) (record { number_is = refl; degree_is = refl })
