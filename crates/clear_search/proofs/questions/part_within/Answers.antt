@@ -34,5 +34,4 @@ all_within-requires c =
 
 pub returns : goal.returns
 returns c =
-    let args = c.args in
-    asked args.n args.row args.part c.part_place.ensures args.limits args.rows.now c.all_within.ensures
+    asked c.args.n c.args.row c.args.part c.part_place.ensures c.args.limits c.args.rows.now c.all_within.ensures
