@@ -65,8 +65,12 @@ module _ (sheet : Sheet) (before : List ℤ) {after : List ℤ} {outcome : Outco
   gives : Gives outcome (result passed.outcome) (refused_step passed.outcome)
   gives = record { result_is = ap result into.0; step_is = ap refused_step into.0 }
 
-  pub promised : (outcome ≡ (passage sheet (length before)).outcome) × (Leaves sheet (passage sheet (length before)) before after × Gives outcome (result (passage sheet (length before)).outcome) (refused_step (passage sheet (length before)).outcome))
-  promised = (into.0, (leaves, gives))
+  pub promised : record {
+    ended : outcome ≡ (passage sheet (length before)).outcome;
+    leaves : Leaves sheet (passage sheet (length before)) before after;
+    numbered : Gives outcome (result (passage sheet (length before)).outcome) (refused_step (passage sheet (length before)).outcome);
+  }
+  promised = record { ended = into.0; leaves = leaves; numbered = gives }
 
 -- ---- one step by itself
 

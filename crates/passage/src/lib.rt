@@ -17,6 +17,7 @@ use terms::gather;
 use verdict::verdict;
 
 // A start's number of units. Where there is no reading the sheet is refused before this is asked.
+#[tactic(auto, unfolding(model::specs::Sheet::start_value))]
 fn start_value(start: Start) -> i64
     ensures { result ≡ start_value start }
 {
@@ -99,6 +100,7 @@ pub fn run(sheet: Sheet, rows: &mut [i64]) -> Outcome
 }
 
 // How many rows the passage of a sheet has written.
+#[tactic(auto, unfolding(model::specs::Passage::rows_written))]
 pub fn rows_written(sheet: Sheet, outcome: Outcome) -> usize
     ensures { result ≡ passage.rows_written sheet outcome }
 {
