@@ -1,0 +1,10 @@
+-- `answer::run_sheet` meets its contract. A refused sheet has no rows; a passage's stand in the buffer.
+use Rattle.answer.proofs.Answered.{ran_refused, ran_accepted}
+use Rattle.answer.proofs.run_sheet.Goals as goal
+
+pub returns-in-Refused : goal.returns-in-Refused
+returns-in-Refused c = ran_refused c.args.sheet.now c.read-reading.ensures.whole c.args.rows.now c.in-Refused.is
+
+pub returns : goal.returns
+returns c =
+    rw c.rows_written.ensures (ran_accepted c.args.sheet.now c.read-reading.ensures.whole c.args.rows.now c.in_default.is c.run-outcome.ensures.ended c.run-outcome.ensures.leaves.buffer)
