@@ -49,6 +49,7 @@ pub fn first_clear(n: usize, count: usize, rows: &[i64], query: Query) -> Found
 }
 
 // An answer as one number: the row's, 0 for none, or a refusal's with a minus.
+#[tactic(auto, unfolding(clear_rule::specs::Clearance::found_number, clear_rule::specs::Asked::NamesRow))]
 fn found_number(found: Found) -> i64
     requires { NamesRow found }
     ensures { result ≡ clearance.found_number found }

@@ -3,10 +3,9 @@
 // Each line is what came of one; the file `stdout` beside src/ has what they must be.
 #![tactic(auto)]
 
-use std::io;
-
 use clearance::{Found, Query, run_and_find};
 use model::{Head, MOST_QUANTITIES, MOST_TERMS, Quantity, Sheet, Start, Term, Terms};
+use std::io;
 
 // One term in the rate of the first of so many quantities, from one whole, over so many steps.
 fn sheet(n: usize, steps: usize, step: i64, term: Term) -> Sheet {
