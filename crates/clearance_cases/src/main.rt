@@ -51,15 +51,17 @@ fn rising(steps: usize, step: i64) -> Sheet {
     sheet(1, steps, step, term)
 }
 
+// A number behind some words.
+fn print(rt: &HostRuntime, words: &str, number: u64) -> io::Result<()> {
+    print!(rt; "{words}{number}")
+}
+
 // What was found.
 fn print_found(rt: &HostRuntime, found: Found) -> io::Result<()> {
     match found {
-        Found::At(row) => println!(rt; " first={row}"),
-        Found::Nowhere => println!(rt; " first=0"),
-        Found::Refused(refusal) => {
-            let number = model::number(refusal);
-            println!(rt; " refused={number}")
-        }
+        Found::At(row) => print(rt, " first=", row as u64),
+        Found::Nowhere => print(rt, " first=", 0),
+        Found::Refused(refusal) => print(rt, " refused=", model::number(refusal)),
     }
 }
 
@@ -75,10 +77,10 @@ fn ask(rt: &HostRuntime, sheet: Sheet, weight: i64, need: i64, run: usize) -> io
     };
     let mut rows = [0i64; 15];
     let came = run_and_find(sheet, &mut rows, query);
-    let result = model::result(came.outcome);
-    let at = model::refused_step(came.outcome);
-    print!(rt; "result={result} at={at}")?;
-    print_found(rt, came.found)
+    print(rt, "result=", model::result(came.outcome))?;
+    print(rt, " at=", model::refused_step(came.outcome))?;
+    print_found(rt, came.found)?;
+    println!(rt)
 }
 
 // One row, 22020096 within 349534, and from 11184802 to 22369630 all the way: at the need, and a unit short of it; a run of
