@@ -2,11 +2,10 @@
 // written is said on standard error.
 #![tactic(auto)]
 
-use std::io;
-
 use answer::SHEET_LENGTH;
 use conversion::{CONVERTED_LENGTH, convert_input};
 use input::{Input, read_input};
+use std::io;
 
 // Reads a stored sheet, and prints what it comes out as.
 fn main(rt: HostRuntime) -> io::Result<()> {

@@ -32,9 +32,9 @@ returns-then-read_as-le-MOST_STEPS c =
     let short = c.if-read_as-le-MOST_STEPS.true in
     let put = c.put_front.ensures in
     record {
-      printed = put_printed (put_same (short_printed sheet is rows accepted short) put);
+      printed = put_printed (put_same (short_printed sheet is rows accepted (omega (arith, short))) put);
       bounded = omega (arith, put.counted, read_fits sheet is rows accepted);
-      leaves = split_leaves sheet rows (short_unwritten sheet is rows accepted short);
+      leaves = split_leaves sheet rows (short_unwritten sheet is rows accepted (omega (arith, short)));
       comes_out = lent_comes_out (length rows) sheet;
     }
 
