@@ -2,10 +2,9 @@
 // standard error.
 #![tactic(auto)]
 
-use std::io;
-
 use answer::{SHEET_LENGTH, TEXT_LENGTH, answer_input};
 use input::{Input, read_input};
+use std::io;
 
 // Reads a sheet, and prints its answer.
 fn main(rt: HostRuntime) -> io::Result<()> {
