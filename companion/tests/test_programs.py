@@ -85,7 +85,7 @@ class Before(Repository):
                 self.assertFalse(self.asked.exists())
         self.assertFalse((self.folder / "target").exists())
         self.expect(70, "the planner could not be proved and built", "show", "tide.toml")
-        self.assertEqual(self.asked.read_text(), "check planner\n")
+        self.assertEqual(self.asked.read_text(), "run\n")
 
     def test_a_folder_that_may_not_be_written_to(self):
         """The question is answered for root, who may write everywhere, as for others."""
@@ -118,7 +118,7 @@ class Before(Repository):
         self.assertIn("passage: rt, the command of Rattle's toolchain, is not on the PATH", done.stderr)
 
     def test_an_interrupted_proof_is_no_refusal(self):
-        stand_in(self.folder / "bin", "rt", '#!/bin/sh\n[ "$1" != version ] || exit 0\n: >started\nsleep 20\n')
+        stand_in(self.folder / "bin", "rt", '#!/bin/sh\n[ "$1" != version ] || exit 0\n: >../../started\nsleep 20\n')
         command = [self.folder / "companion" / "passage", "show", "tide.toml"]
         path = f"{self.folder / 'bin'}:{os.environ['PATH']}"
         started = subprocess.Popen(
