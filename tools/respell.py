@@ -11,6 +11,7 @@ Must-fail edits are also turned as port.py turns the texts that they edit: opera
 import collections
 import os
 import re
+import subprocess
 import sys
 
 WORD = r"[^\s(){}.;,@\"«»\[\]\\]+"
@@ -157,8 +158,9 @@ def plain(text):
 
 
 def library_names():
-    kit = os.path.dirname(os.path.dirname(os.path.realpath("/opt/rattle/port/port.py")))
-    notes = os.path.join(kit, "port", "notes")
+    """The libraries' names, old and new, as the toolchain's port.py has them."""
+    guide = subprocess.run(["rt", "doc"], capture_output=True, text=True, check=True).stdout.strip()
+    notes = os.path.join(os.path.dirname(guide), "port", "notes")
     table = {}
     for where in ("2026-11-18-names-are-in-snake-case/snake.tsv", "2026-11-19-a-prime-is-an-apostrophe/respelled.tsv"):
         for row in read(os.path.join(notes, where)).split("\n"):
@@ -238,6 +240,16 @@ def stands(word, body):
     return re.search(r"(?<![\w'-])" + re.escape(word) + r"(?![\w'-])", body) is not None
 
 
+def marked(path, text):
+    """The lines of an edit: each line, its kind (file, old, new or None), what stands behind that, and the file that is edited."""
+    target = ""
+    for line in text.split("\n"):
+        m = re.match(r"(file|old|new): ?(.*)$", line)
+        if m and m[1] == "file":
+            target = os.path.join(path.split("/must-fail/")[0], m[2].strip())
+        yield line, m and m[1], m and m[2], target
+
+
 def main():
     check = "--check" in sys.argv[1:]
     texts = {path: read(path) for path in files()}
@@ -295,79 +307,61 @@ def main():
     # ---- the texts
     libraries = library_names()
     count = collections.Counter()
+
+    def put(path, new, what):
+        if new != texts[path]:
+            count[what] += 1
+            texts[path] = new
+            if not check:
+                with open(path, "w", encoding="utf-8") as it:
+                    it.write(new)
+
     for path, text in texts.items():
         keep = brought(text)
         if path.endswith(".antt"):
             table = {**every, **local[path]}
-            new = quoted_apart(text, lambda t: plain(turned(t, table, keep)))
+            put(path, quoted_apart(text, lambda t: plain(turned(t, table, keep))), "files")
         elif path.endswith(".rt"):
-            new = clauses(text, lambda t: plain(turned(t, every, keep)))
-        else:
-            continue
-        if new != text:
-            count["files"] += 1
-            texts[path] = new
-            if not check:
-                with open(path, "w", encoding="utf-8") as it:
-                    it.write(new)
+            put(path, clauses(text, lambda t: plain(turned(t, every, keep))), "files")
     # ---- the edits
-    for path, text in texts.items():
-        if not path.endswith(".edit"):
-            continue
-        lines, target, names = [], "", None
-        for line in text.split("\n"):
-            m = re.match(r"(file|old|new): ?(.*)$", line)
-            if not m:
+    edits = [path for path in texts if path.endswith(".edit")]
+    lib = {k: v for k, v in libraries.items() if k not in every}
+    for path in edits:
+        lines, names = [], None
+        for line, kind, it, target in marked(path, texts[path]):
+            if kind not in ("old", "new"):
                 lines.append(line)
                 continue
-            if m[1] == "file":
-                target = os.path.join(path.split("/must-fail/")[0], m[2].strip())
-                lines.append(line)
-                continue
-            it = m[2]
             # names that an edit brings in: the text edited has one line for what the libraries have
             brings = re.match(r"use ([^\s{]+)\.\{([^}]*)(?:\}|$)", it)
             if brings and LIBRARY.match(brings[1]):
                 these = [n for n in edit_line(brings[2]).replace(" ", "").split(",") if n]
-                if m[1] == "old":
+                if kind == "old":
                     names = these
-                else:
-                    lib = {k: v for k, v in libraries.items() if k not in every}
-                    more = [lib.get(n, n) for n in these if n not in names]
-                    have = re.search(r"use Rattle\.std\.specs\.Prelude\.\{([^}]*)\}", texts[target])
-                    more = [n for n in more if n not in [h.strip() for h in have[1].split(",")]]
-                    if more:
-                        lines += ["old: use Rattle.std.specs.Prelude.{", "new: use Rattle.std.specs.Prelude.{" + "".join(n + ", " for n in more)]
+                    continue
+                have = re.search(r"use Rattle\.std\.specs\.Prelude\.\{([^}]*)\}", texts[target])
+                stand = [h.strip() for h in have[1].split(",")]
+                more = [n for n in (lib.get(n, n) for n in these if n not in names) if n not in stand]
+                if more:
+                    lines += ["old: use Rattle.std.specs.Prelude.{", "new: use Rattle.std.specs.Prelude.{" + "".join(n + ", " for n in more)]
                 continue
             if target.endswith(".antt") or re.search(r"ensures|requires|ghost use", it):
-                it = edit_line(it)
-                it = quoted_apart(it, lambda t: own_words(turned(turned(t, {k: v for k, v in libraries.items() if k not in every}, set()), every, set()), texts.get(target, "")))
-            lines.append(f"{m[1]}: {it}")
-        new = "\n".join(lines)
-        if new != text:
-            count["edits"] += 1
-            texts[path] = new
-            if not check:
-                with open(path, "w", encoding="utf-8") as it:
-                    it.write(new)
+                it = quoted_apart(edit_line(it), lambda t: own_words(turned(turned(t, lib, set()), every, set()), texts.get(target, "")))
+            lines.append(f"{kind}: {it}")
+        put(path, "\n".join(lines), "edits")
     # ---- edits whose text does not stand once
-    for path, text in texts.items():
-        if not path.endswith(".edit"):
-            continue
-        target, body = None, ""
-        pairs = []
-        for line in text.split("\n"):
-            m = re.match(r"(file|old|new): ?(.*)$", line)
-            if m and m[1] == "file":
-                target = os.path.join(path.split("/must-fail/")[0], m[2].strip())
+    for path in edits:
+        body, old = None, None
+        for _, kind, it, target in marked(path, texts[path]):
+            if kind == "file":
                 body = texts.get(target, "")
-            elif m and m[1] == "old":
-                pairs.append(m[2])
-            elif m and m[1] == "new":
-                if body.count(pairs[-1]) != 1:
-                    print(f"edit: {path}: {body.count(pairs[-1])} times: {pairs[-1]}")
+            elif kind == "old":
+                old = it
+            elif kind == "new":
+                if body.count(old) != 1:
+                    print(f"edit: {path}: {body.count(old)} times: {old}")
                     count["edits by hand"] += 1
-                body = body.replace(pairs[-1], m[2], 1)
+                body = body.replace(old, it, 1)
     print("; ".join(f"{k} {v}" for k, v in sorted(count.items())), f"; {len(every)} names")
     return 0
 

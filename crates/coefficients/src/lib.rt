@@ -23,7 +23,7 @@ pub fn start_orders(
 )
     requires n_le_most_quantities { n ≤ most_quantities }
     requires by_index { (i : ℕ) → i < n → rule.reach (ball_in start.now radii.now i) ≤ most }
-    requires usable_2 { Usable n values.old reaches.old }
+    requires usable_before { Usable n values.old reaches.old }
     ensures usable { Usable n values.new reaches.new }
     ensures started { (i : ℕ) → i < n → ball_at values.new reaches.new 0 i ≡ ball_in start.now radii.now i }
 {

@@ -23,8 +23,8 @@ pub const PLACES: usize = MOST_QUANTITIES * ORDERS;
 // S and F with the product of two coefficients more, whose |c| + e are m and n:
 // S + near(c×c', s) and F + up(|c|×e' + |c'|×e + e×e', s) + 1.
 fn with_product(sum: Ball, coefficient: i64, m: u64, other: i64, n: u64) -> Ball
-    requires reached { Reached coefficient m }
-    requires reached_2 { Reached other n }
+    requires coefficient_reached { Reached coefficient m }
+    requires other_reached { Reached other n }
     requires sum_bound { rule.reach sum ≤ 2 ^ 40 }
     ensures value { result.value ≡ sum.value +ℤ round.near (coefficient *ℤ other) scale }
     ensures radius { result.radius ≡ sum.radius + (round.up (m * n - nat_abs (coefficient *ℤ other)) scale + 1) }
@@ -47,8 +47,8 @@ fn convolution(
     second: usize,
 ) -> Ball
     requires at_order { AtOrder k values.now reaches.now }
-    requires quantity { IsQuantity first }
-    requires quantity_2 { IsQuantity second }
+    requires first_quantity { IsQuantity first }
+    requires second_quantity { IsQuantity second }
     ensures { result ≡ rule.products (table_in k values.now reaches.now) k first second }
 {
     let start = (first - 1) * ORDERS;

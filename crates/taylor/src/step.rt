@@ -130,7 +130,7 @@ pub fn take_step(
 ) -> Stepped
     requires can_step { CanStep head (listed terms) }
     requires sums_of { SumsOf (listed terms) head.n sums.now }
-    requires usable_2 { Usable head.n values.old reaches.old }
+    requires usable_before { Usable head.n values.old reaches.old }
     ensures stepped { result ≡ answered start (passage.advance (listed terms) head.step head.tail head.tol (balls_of head.n start)) }
     ensures usable { Usable head.n values.new reaches.new }
 {

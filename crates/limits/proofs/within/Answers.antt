@@ -3,6 +3,7 @@ use mathlib.Core.Path.{◌≡◌}
 use mathlib.Core.Bool.{true, false}
 use lib.IntN.{ℤ}
 use lib.Signed.{le_z}
+use borrow.Author.Rules.{rules}
 use mir.Syntax.{w64}
 use mir.Val.{SFits, to_z, of_z}
 use mir.Facts.{to_z-of_z}
@@ -22,8 +23,8 @@ module _ (limits : Limits) {z : ℤ} (low : SFits w64 limits.low) (high : SFits 
 
 pub returns-then-low-z : goal.returns-then-low-z
 returns-then-low-z c =
-    above c.args.limits (record { sfits = c.struct_told-1.given.0.1 }) (record { sfits = c.struct_told-1.given.1.0.1 }) c.ranges.z c.if-low-z.true
+    above c.args.limits (search rules) (search rules) c.ranges.z c.if-low-z.true
 
 pub returns-else-low-z : goal.returns-else-low-z
 returns-else-low-z c =
-    below c.args.limits (record { sfits = c.struct_told-1.given.0.1 }) (record { sfits = c.struct_told-1.given.1.0.1 }) c.ranges.z c.if-low-z.false
+    below c.args.limits (search rules) (search rules) c.ranges.z c.if-low-z.false

@@ -21,8 +21,8 @@ loop-l-init c = (omega arith, no_products _ _ _ _)
 pub with_product-sum-requires : goal.with_product-sum-requires
 with_product-sum-requires c =
     record {
-      reached = first_reached c.requires.at_order.small c.args.first c.args.second c.requires.quantity c.requires.quantity_2 c.loop-l.l c.loop-l-test.true;
-      reached_2 = second_reached c.requires.at_order.small c.args.first c.args.second c.requires.quantity c.requires.quantity_2 c.loop-l.l c.loop-l-test.true;
+      coefficient_reached = first_reached c.requires.at_order.small c.args.first c.args.second c.requires.first_quantity c.requires.second_quantity c.loop-l.l c.loop-l-test.true;
+      other_reached = second_reached c.requires.at_order.small c.args.first c.args.second c.requires.first_quantity c.requires.second_quantity c.loop-l.l c.loop-l-test.true;
       sum_bound = sum_fits c.requires.at_order.small c.args.first c.args.second c.loop-l.l c.loop-l.invariant.0 c.requires.at_order.order c.loop-l.invariant.1;
     }
 
@@ -32,9 +32,9 @@ loop-l-preserved c =
     let turn = c.loop-l in
     let test = c.loop-l-test in (
       omega (arith, test.true),
-      rw (add-one turn.l) (one_product_more c.requires.at_order.small c.args.first c.args.second c.requires.quantity c.requires.quantity_2 turn.l test.true turn.invariant.1 c.with_product-sum.ensures.value c.with_product-sum.ensures.radius),
+      rw (add-one turn.l) (one_product_more c.requires.at_order.small c.args.first c.args.second c.requires.first_quantity c.requires.second_quantity turn.l test.true turn.invariant.1 c.with_product-sum.ensures.value c.with_product-sum.ensures.radius),
     )
 
 pub returns : goal.returns
 returns c =
-    whole (table_in c.args.k c.args.values.now c.args.reaches.now) c.args.k c.args.first c.args.second c.loop-l.l c.loop-l.invariant.0 c.loop-l-test.false c.requires.quantity_2.low c.loop-l.invariant.1
+    whole (table_in c.args.k c.args.values.now c.args.reaches.now) c.args.k c.args.first c.args.second c.loop-l.l c.loop-l.invariant.0 c.loop-l-test.false c.requires.second_quantity.low c.loop-l.invariant.1

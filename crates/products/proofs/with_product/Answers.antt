@@ -57,7 +57,7 @@ module _ (a b : ℤ) {r t : ℕ} (reached : Reached a r) (other-reached : Reache
           rw value_is (sfits_abs (omega (arith, abs_add sum.value (near (a *ℤ b) scale), rounded_small, sum-small)))
 
 pub overflow_mul-signed : goal.overflow_mul-signed
-overflow_mul-signed c = signed_fits c.args.coefficient c.args.other c.requires.reached c.requires.reached_2 c.ranges.coefficient c.ranges.other
+overflow_mul-signed c = signed_fits c.args.coefficient c.args.other c.requires.coefficient_reached c.requires.other_reached c.ranges.coefficient c.ranges.other
 
 pub product-requires : goal.product-requires
 unfolding most
@@ -65,31 +65,31 @@ product-requires c = search rules
 
 pub overflow_sub-error : goal.overflow_sub-error
 overflow_sub-error c =
-    omega (arith, c.product.ensures, c.magnitude.ensures ∙ ap nat_abs (signed_kept c.args.coefficient c.args.other c.requires.reached c.requires.reached_2 c.ranges.coefficient c.ranges.other), product_covered c.args.coefficient c.args.other c.requires.reached c.requires.reached_2)
+    omega (arith, c.product.ensures, c.magnitude.ensures ∙ ap nat_abs (signed_kept c.args.coefficient c.args.other c.requires.coefficient_reached c.requires.other_reached c.ranges.coefficient c.ranges.other), product_covered c.args.coefficient c.args.other c.requires.coefficient_reached c.requires.other_reached)
 
 pub overflow_add-result : goal.overflow_add-result
 unfolding scale
 overflow_add-result c =
-    value_fits c.args.coefficient c.args.other c.requires.reached c.requires.reached_2 c.ranges.coefficient c.ranges.other c.args.sum c.requires.sum_bound c.near.ensures
+    value_fits c.args.coefficient c.args.other c.requires.coefficient_reached c.requires.other_reached c.ranges.coefficient c.ranges.other c.args.sum c.requires.sum_bound c.near.ensures
 
 pub up_and_one-requires : goal.up_and_one-requires
 up_and_one-requires c =
     record {
       d_nonzero = omega arith;
-      d_bound = omega (arith, error_is c.args.coefficient c.args.other c.requires.reached c.requires.reached_2 c.ranges.coefficient c.ranges.other c.product.ensures c.magnitude.ensures, reaches_fit c.requires.reached.small c.requires.reached_2.small);
+      d_bound = omega (arith, error_is c.args.coefficient c.args.other c.requires.coefficient_reached c.requires.other_reached c.ranges.coefficient c.ranges.other c.product.ensures c.magnitude.ensures, reaches_fit c.requires.coefficient_reached.small c.requires.other_reached.small);
     }
 
 pub overflow_add-result-2 : goal.overflow_add-result-2
 unfolding reach scale
 overflow_add-result-2 c =
-    let error = error_is c.args.coefficient c.args.other c.requires.reached c.requires.reached_2 c.ranges.coefficient c.ranges.other c.product.ensures c.magnitude.ensures in
-    omega (arith, error_small c.args.coefficient c.args.other c.requires.reached c.requires.reached_2 (nat_abs (c.args.coefficient *ℤ c.args.other)) (c.up_and_one.ensures ∙ ap (λ (n : ℕ). up n scale + 1) error), c.requires.sum_bound)
+    let error = error_is c.args.coefficient c.args.other c.requires.coefficient_reached c.requires.other_reached c.ranges.coefficient c.ranges.other c.product.ensures c.magnitude.ensures in
+    omega (arith, error_small c.args.coefficient c.args.other c.requires.coefficient_reached c.requires.other_reached (nat_abs (c.args.coefficient *ℤ c.args.other)) (c.up_and_one.ensures ∙ ap (λ (n : ℕ). up n scale + 1) error), c.requires.sum_bound)
 
 pub returns : goal.returns
 unfolding scale
 returns c =
-    let error = error_is c.args.coefficient c.args.other c.requires.reached c.requires.reached_2 c.ranges.coefficient c.ranges.other c.product.ensures c.magnitude.ensures in
+    let error = error_is c.args.coefficient c.args.other c.requires.coefficient_reached c.requires.other_reached c.ranges.coefficient c.ranges.other c.product.ensures c.magnitude.ensures in
     record {
-      value = to_z-of_z {w = w64} (value_fits c.args.coefficient c.args.other c.requires.reached c.requires.reached_2 c.ranges.coefficient c.ranges.other c.args.sum c.requires.sum_bound c.near.ensures) ∙ value_is c.args.coefficient c.args.other c.requires.reached c.requires.reached_2 c.ranges.coefficient c.ranges.other c.args.sum c.requires.sum_bound c.near.ensures;
+      value = to_z-of_z {w = w64} (value_fits c.args.coefficient c.args.other c.requires.coefficient_reached c.requires.other_reached c.ranges.coefficient c.ranges.other c.args.sum c.requires.sum_bound c.near.ensures) ∙ value_is c.args.coefficient c.args.other c.requires.coefficient_reached c.requires.other_reached c.ranges.coefficient c.ranges.other c.args.sum c.requires.sum_bound c.near.ensures;
       radius = ap (λ (u : ℕ). c.args.sum.radius + u) (c.up_and_one.ensures ∙ ap (λ (n : ℕ). up n scale + 1) error);
     }

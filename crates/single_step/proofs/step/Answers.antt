@@ -35,7 +35,7 @@ take_step-requires c =
     record {
       can_step = can_step_by c.args.sheet c.gather-terms.result c.in_default.ensures.whole c.gather-terms.ensures;
       sums_of = c.sums_of-sums.ensures;
-      usable_2 = blank_usable _;
+      usable_before = blank_usable _;
     }
 
 pub returns : goal.returns

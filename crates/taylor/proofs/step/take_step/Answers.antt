@@ -127,5 +127,5 @@ row_of-numbers-requires c =
       room = c.requires.can_step.room;
       degree = omega (arith, c.truncate-cut.ensures.degree, least.at_most);
       tail = omega (arith, c.truncate-cut.ensures.tail, least.within, c.requires.can_step.tail_high);
-      usable = c.requires.usable_2;
+      usable = c.requires.usable_before;
     }
