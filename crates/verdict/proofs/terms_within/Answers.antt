@@ -1,7 +1,7 @@
 -- `verdict::terms_within` meets its contract. The invariant: every term passed so far passes.
 use Prim.Native.Nat.{ℕ, ◌≤◌}
 use mathlib.Core.Path.{◌≡◌, refl, sym, ◌∙◌}
-use mathlib.Core.Bool.{true}
+use mathlib.Core.Bool.{true, false}
 use native.Mathlib.Omega.{arith}
 use lib.IntN.{pos}
 use Rattle.model.specs.Sheet.{most_terms, ask, ◌then◌, in_order, from◌to◌, within, terms_limits, in_range, terms_verdict, no_term}
@@ -17,7 +17,9 @@ count_fits asked = (natural_within {low = 0} {high = most_terms} (pos _) (sym as
 
 pub returns-then-not-natural_within : goal.returns-then-not-natural_within
 unfolding terms_verdict terms_limits from◌to◌ in_range ask ◌then◌
-returns-then-not-natural_within c = rw (← c.if-not-natural_within.ensures)
+returns-then-not-natural_within c =
+    let asked : false ≡ within terms_limits (pos c.args.terms.count) = c.if-not-natural_within.ensures in
+    rw (← asked)
 
 pub loop-j-init : goal.loop-j-init
 unfolding in_order
