@@ -1,5 +1,5 @@
 -- `number_cases::show` meets its contract: both lines fit, that of a number in its range and that of a number that was read.
-use Rattle.std.proofs.Common.{◌<◌, ◌^◌, sym, arith, ℤ, nat_abs}
+use Rattle.std.proofs.Common.{◌<◌, ◌^◌, refl, sym, arith, nat_abs}
 use mir.Syntax.{w64}
 use mir.Val.{SFits}
 use mir.Facts.{to_z-of_z}
