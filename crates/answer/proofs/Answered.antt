@@ -1,4 +1,5 @@
 -- What comes of a sheet's bytes with lent places: with places enough it is document 01's; its rows stand in the buffer and are trusted.
+use Rattle.std.specs.Prelude.{Err, Ok}
 use Prim.Native.Nat.{ℕ, ◌*◌, ◌≤◌, ◌<◌}
 use mathlib.Core.List.{List, [], ◌∷◌}
 use mathlib.Core.Path.{◌≡◌, refl, sym, ap, ◌∙◌}
@@ -12,10 +13,8 @@ use Rattle.model.specs.Rows.{width, places, written, rows_in}
 use Rattle.enclosure.specs.RowRange.{RowsPrintable}
 use Rattle.model.specs.Passage.{Run, passage, run, refused, places_needed, rows_written}
 use Rattle.model.specs.Reading.{read_sheet}
-use Rattle.model.specs.Sheet.{most_bytes, most_quantities, most_steps, result, refused_step, n_limits, head_verdict, no_head, sheet_verdict_to, sheet_verdict, refuses, no_sheet, in_range, ask, within, from◌to◌, ◌then◌}
+use Rattle.model.specs.Sheet.{most_bytes, most_quantities, most_steps, result, refused_step, n_limits, head_verdict, no_head, sheet_verdict_to, sheet_verdict, refuses, no_sheet, in_range, ask, within, from◌to◌, ◌then◌, Outcome, not_refused, refused_at}
 use Rattle.enclosure.specs.Trust.{TrustedOf, SpannedOf, Leaves}
-use Rattle.model.specs.declared.Outcome.{Outcome}
-use Rattle.model.specs.declared.Outcome.TheVariants.{Accepted, Refused}
 use Rattle.model.specs.declared.Refusal.{Refusal}
 use Rattle.model.specs.declared.Refusal.TheVariants.{OutOfRange}
 use Rattle.model.specs.declared.ReadSheet.{ReadSheet}
@@ -44,7 +43,7 @@ unfolding sheet_verdict_to head_verdict no_sheet no_head in_range ask within n_l
 zeros_refused = refl
 
 -- those of a sheet that was read
-counts_of_accepted : (sheet : List ℕ) → (read_sheet sheet).outcome ≡ Accepted → Counts (read_sheet sheet).sheet
+counts_of_accepted : (sheet : List ℕ) → (read_sheet sheet).outcome ≡ not_refused → Counts (read_sheet sheet).sheet
 counts_of_accepted sheet e = counts_of_sheet (read_sheet sheet).sheet (accepted_is_acceptable most_steps sheet e).verdict
 
 -- no more quantities than the most, and none where it was refused
@@ -52,18 +51,18 @@ few_quantities : (sheet : List ℕ) → (read_sheet sheet).sheet.head.n ≤ most
 few_quantities sheet = go (read_sheet sheet).outcome refl
   where
     go : (outcome : Outcome) → (read_sheet sheet).outcome ≡ outcome → (read_sheet sheet).sheet.head.n ≤ most_quantities
-    go Accepted e = (counts_of_accepted sheet e).n_high
-    go (Refused r step) e = unfold no_sheet no_head in rw (refused_is_zeros most_steps sheet e).zeros (omega arith)
+    go (Ok done) e = (counts_of_accepted sheet e).n_high
+    go (Err refused) e = unfold no_sheet no_head in rw (refused_is_zeros most_steps sheet e).zeros (omega arith)
 
 -- ---- by what the sheet is read as
 
 module _ (sheet : List ℕ) (lent : ℕ) where
   -- a sheet that is refused in reading has that refusal and no row, and any other is run with the places lent
-  pub lent_refused : {r : Refusal} {step : ℕ} → (read_sheet sheet).outcome ≡ Refused r step → run_lent sheet lent ≡ refused r step
+  pub lent_refused : {r : Refusal} {step : ℕ} → (read_sheet sheet).outcome ≡ refused_at r step → run_lent sheet lent ≡ refused r step
   unfolding run_lent
   lent_refused e = rw (e, run_lent)
 
-  pub lent_accepted : (read_sheet sheet).outcome ≡ Accepted → run_lent sheet lent ≡ passage (read_sheet sheet).sheet lent
+  pub lent_accepted : (read_sheet sheet).outcome ≡ not_refused → run_lent sheet lent ≡ passage (read_sheet sheet).sheet lent
   unfolding run_lent
   lent_accepted e = rw (e, run_lent)
 
@@ -72,8 +71,8 @@ module _ (sheet : List ℕ) (lent : ℕ) where
   rows_are = go (read_sheet sheet).outcome refl
     where
       go : (outcome : Outcome) → (read_sheet sheet).outcome ≡ outcome → (run_lent sheet lent).rows ≡ (passage (read_sheet sheet).sheet lent).rows
-      go Accepted e = ap (λ (run : Run). run.rows) (lent_accepted e)
-      go (Refused r step) e = unfold refused in rw (lent_refused e, (refused_is_zeros most_steps sheet e).zeros, passage_refused no_sheet lent zeros_refused)
+      go (Ok done) e = ap (λ (run : Run). run.rows) (lent_accepted e)
+      go (Err refused) e = unfold refused in rw (lent_refused e, (refused_is_zeros most_steps sheet e).zeros, passage_refused no_sheet lent zeros_refused)
 
   -- ---- the rows
 
@@ -92,8 +91,8 @@ module _ (sheet : List ℕ) (lent : ℕ) where
   early = go (read_sheet sheet).outcome refl
     where
       go : (outcome : Outcome) → (read_sheet sheet).outcome ≡ outcome → refused_step (run_lent sheet lent).outcome ≤ most_steps
-      go Accepted e = rw (lent_accepted e) (passage_step (read_sheet sheet).sheet lent)
-      go (Refused r step) e = unfold refused refused_step in rw (lent_refused e, (refused_is_zeros most_steps sheet e).before_steps) (omega arith)
+      go (Ok done) e = rw (lent_accepted e) (passage_step (read_sheet sheet).sheet lent)
+      go (Err refused) e = unfold refused refused_step in rw (lent_refused e, (refused_is_zeros most_steps sheet e).before_steps) (omega arith)
 
   -- the text has no more bytes than the longest answer
   short : length (run_text (run_lent sheet lent)) ≤ most_answer
@@ -111,13 +110,13 @@ module _ (sheet : List ℕ) {read : ReadSheet} (is : read ≡ read_sheet sheet) 
   outcome_is : {outcome : Outcome} → read.outcome ≡ outcome → (read_sheet sheet).outcome ≡ outcome
   outcome_is told = ap (λ (x : ReadSheet). x.outcome) (sym is) ∙ told
 
-  pub ran_refused : {r : Refusal} {step : ℕ} → read.outcome ≡ Refused r step → Ran sheet before before (record { n = read.sheet.head.n; count = 0; outcome = read.outcome })
+  pub ran_refused : {r : Refusal} {step : ℕ} → read.outcome ≡ refused_at r step → Ran sheet before before (record { n = read.sheet.head.n; count = 0; outcome = read.outcome })
   unfolding ended_of refused written places
   ran_refused told =
       let e = outcome_is told in
       record { answer = rw (lent_refused sheet (length before) e, is, e); buffer = rw (lent_refused sheet (length before) e) }
 
-  pub ran_accepted : {outcome : Outcome} {after : List ℤ} → read.outcome ≡ Accepted → outcome ≡ (passage read.sheet (length before)).outcome → after ≡ written (passage read.sheet (length before)).rows before → Ran sheet before after (record { n = read.sheet.head.n; count = rows_written read.sheet outcome; outcome = outcome })
+  pub ran_accepted : {outcome : Outcome} {after : List ℤ} → read.outcome ≡ not_refused → outcome ≡ (passage read.sheet (length before)).outcome → after ≡ written (passage read.sheet (length before)).rows before → Ran sheet before after (record { n = read.sheet.head.n; count = rows_written read.sheet outcome; outcome = outcome })
   unfolding ended_of
   ran_accepted told ended left =
       let run = lent_accepted sheet (length before) (outcome_is told) ∙ ap (λ (x : ReadSheet). passage x.sheet (length before)) (sym is) in
@@ -172,10 +171,10 @@ unfolding run_of
 enough_is_run sheet lent enough = go (read_sheet sheet).outcome refl
   where
     go : (outcome : Outcome) → (read_sheet sheet).outcome ≡ outcome → run_lent sheet lent ≡ run_of sheet
-    go Accepted e =
+    go (Ok done) e =
         let counts = counts_of_accepted sheet e in
         lent_accepted sheet lent e ∙ passage_runs (read_sheet sheet).sheet lent (accepted_is_acceptable most_steps sheet e).verdict (needs_at_most (read_sheet sheet).sheet counts.n_high counts.steps_high enough) ∙ sym (rw (e, run_of))
-    go (Refused r step) e = lent_refused sheet lent e ∙ sym (rw (e, run_of))
+    go (Err refused) e = lent_refused sheet lent e ∙ sym (rw (e, run_of))
 
 pub enough_is_answer : (sheet : List ℕ) (lent : ℕ) → most_steps * width most_quantities ≤ lent → run_text (run_lent sheet lent) ≡ answer sheet
 unfolding answer
@@ -210,7 +209,7 @@ unfolding answer run_of
 answer_by_reading e =
     record {
       reading = e;
-      text = ap (λ (read : ReadSheet). run_text (elim read.outcome [ Accepted ↦ run read.sheet | Refused r step ↦ refused r step ])) e;
+      text = ap (λ (read : ReadSheet). run_text (elim read.outcome [ Ok done ↦ run read.sheet | Err stop ↦ refused stop.refusal stop.step ])) e;
     }
 
 pub alike_by_front : (room : ℕ) (input bytes : List ℕ) → most_bytes < room → FrontOf room input bytes → AnswersAlike input bytes

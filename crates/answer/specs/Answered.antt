@@ -1,18 +1,17 @@
 -- What comes of a sheet's bytes, with so many places lent for the rows, and of an input of any length.
-use Rattle.std.specs.Prelude.{ℕ, List, [], ◌∷◌, ◌≡◌, ℤ, length, take}
+use Rattle.std.specs.Prelude.{ℕ, List, [], ◌∷◌, ◌≡◌, ℤ, length, take, Err, Ok}
 use Rattle.model.specs.Answer.{answer}
 use Rattle.model.specs.Rows.{written}
 use Rattle.model.specs.Passage.{Run, refused, passage}
 use Rattle.model.specs.Reading.{read_sheet}
 use Rattle.model.specs.Sheet.{result, refused_step}
-use Rattle.model.specs.declared.Outcome.TheVariants.{Accepted, Refused}
 use Rattle.answer.specs.declared.Ended.{Ended}
 
 -- a sheet's passage, or its refusal and no row. With places enough it is `run_of` of document 01 (proofs/Answered.antt).
 unfoldable pub run_lent : List ℕ → ℕ → Run
 run_lent sheet places =
     let read = read_sheet sheet in
-    elim read.outcome [ Accepted ↦ passage read.sheet places | Refused r step ↦ refused r step ]
+    elim read.outcome [ Ok done ↦ passage read.sheet places | Err stop ↦ refused stop.refusal stop.step ]
 
 -- the sheet's quantities, 0 where it was refused, the rows written, and the outcome
 unfoldable pub ended_of : List ℕ → ℕ → Ended

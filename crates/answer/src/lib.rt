@@ -9,8 +9,9 @@ ghost use Rattle.printing.specs.Pieces.{Printed};
 ghost use Rattle.printing.specs.AnswerLength.{most_answer};
 ghost use Rattle.answer.specs.Answered.{run_lent, ended_of, Ran, summary_length, summary_of, FrontOf, AnswersAlike};
 
-use model::{MOST_BYTES, Outcome, refused_step, result};
+use model::{MOST_BYTES, MOST_STEPS, Outcome, refused_step, result};
 use passage::{rows_written, run};
+use rows::Rows;
 use sheet::read;
 use text::put_run;
 
@@ -26,7 +27,8 @@ pub use text::TEXT_LENGTH;
 // The numbers of a summary.
 pub const SUMMARY_LENGTH: usize = 4;
 
-// What came of a sheet: its quantities, 0 where it was not read; the rows written; the outcome.
+// What came of a sheet: its quantities, 0 where it was not read; the rows written; the outcome. Stays: the clause `summarised` of
+// `planner_run` tells all of them of a refused sheet too.
 #[derive(Clone, Copy)]
 pub struct Ended {
     pub n: usize,
@@ -38,21 +40,19 @@ pub struct Ended {
 fn run_sheet(sheet: &[u8], rows: &mut [i64]) -> Ended
     ensures { Ran sheet.now rows.old rows.new result }
 {
-    let reading = read(sheet);
-    let read_as = reading.sheet;
-    let n = read_as.head.n;
-    let refused = reading.outcome;
-    if let Outcome::Refused(_, _) = refused {
+    let reading = read(sheet, MOST_STEPS as u32);
+    let n = reading.sheet.head.n;
+    if let Err(_) = reading.outcome {
         return Ended {
             n,
             count: 0,
-            outcome: refused,
+            outcome: reading.outcome,
         };
     }
-    let outcome = run(read_as, rows);
+    let outcome = run(&reading.sheet, rows);
     Ended {
         n,
-        count: rows_written(read_as, outcome),
+        count: rows_written(&reading.sheet, outcome),
         outcome,
     }
 }
@@ -65,8 +65,7 @@ pub fn planner_answer(sheet: &[u8], rows: &mut [i64], text: &mut [u8]) -> usize
     ensures leaves { Leaves (read_sheet sheet.now).sheet (run_lent sheet.now (length rows.old)) rows.old rows.new }
 {
     let ended = run_sheet(sheet, rows);
-    let outcome = ended.outcome;
-    put_run(text, ended.n, ended.count, rows, outcome)
+    put_run(text, Rows::of(rows, ended.n, ended.count), ended.outcome)
 }
 
 // The result, the refused step, the sheet's quantities and the rows written.
@@ -74,9 +73,8 @@ fn put_summary(summary: &mut [u64], ended: Ended)
     requires { length summary.old ≡ summary_length }
     ensures { summary.new ≡ summary_of ended }
 {
-    let outcome = ended.outcome;
-    summary[0] = result(outcome);
-    summary[1] = refused_step(outcome);
+    summary[0] = result(ended.outcome);
+    summary[1] = refused_step(ended.outcome);
     summary[2] = ended.n as u64;
     summary[3] = ended.count as u64;
 }
@@ -106,14 +104,12 @@ fn answer_sheet(sheet: &[u8], text: &mut [u8]) -> usize
 pub fn front(bytes: &[u8], count: usize) -> &[u8]
     ensures { result.now ≡ take count bytes.now }
 {
-    if count < bytes.len() {
-        return &bytes[..count];
-    }
-    bytes
+    &bytes[..count.min(bytes.len())]
 }
 
 // Prints the answer to an input of any length, of which the first `count` bytes of `sheet` were read: all that it has, or
-// as many as there is room for. The text has room for every answer.
+// as many as there is room for. The text has room for every answer. Stays beside
+// `convert_input`: what the two promise is said by other definitions.
 pub fn answer_input(sheet: &[u8; SHEET_LENGTH], count: usize, text: &mut [u8; TEXT_LENGTH]) -> usize
     ensures printed { Printed text.old (answer (take count sheet.now)) result text.new }
     ensures whole { result ≤ length text.new }

@@ -1,4 +1,5 @@
 -- What the words of an answer say, without records: that a row opens a run, that a row is named, that a state clears the need, and an answer's number and row.
+use Rattle.std.specs.Prelude.{Err, None, Ok, Some}
 use Prim.Native.Nat.{ℕ, suc, ◌+◌, ◌≤◌, ◌<◌}
 use mathlib.Core.Bool.{true}
 use mathlib.Core.List.{List}
@@ -11,25 +12,23 @@ use Rattle.model.specs.Sheet.{scale, number}
 use Rattle.model.specs.Step.{Row, no_row}
 use Rattle.model.specs.declared.Refusal.{Refusal}
 use Rattle.enclosure.specs.Exact.{State}
-use Rattle.clear_rule.specs.Clearance.{weight, certain, found_result, found_row, Names}
+use Rattle.clear_rule.specs.Clearance.{weight, certain, found_result, found_row, Names, Found}
 use Rattle.clear_rule.specs.Claim.{OpensRun, Answers, Clears}
 use Rattle.clear_rule.specs.declared.Query.{Query}
-use Rattle.clear_rule.specs.declared.Found.{Found}
-use Rattle.clear_rule.specs.declared.Found.TheVariants.{At, Nowhere, Refused}
 
 -- ---- runs, and rows that are named
 
 -- a row that is named opens a run, no earlier one does, and where none is said none does
 module _ (query : Query) (rows : List Row) where
-  pub named_opens : (j : ℕ) → Answers query rows (At (suc j)) → OpensRun query rows j
+  pub named_opens : (j : ℕ) → Answers query rows (Ok (Some (suc j))) → OpensRun query rows j
   unfolding Answers
   named_opens j answers = answers.0
 
-  pub named_first : (j : ℕ) → Answers query rows (At (suc j)) → (k : ℕ) → k < j → OpensRun query rows k → ⊥
+  pub named_first : (j : ℕ) → Answers query rows (Ok (Some (suc j))) → (k : ℕ) → k < j → OpensRun query rows k → ⊥
   unfolding Answers
   named_first j answers = answers.1
 
-  pub none_opens : Answers query rows Nowhere → (k : ℕ) → OpensRun query rows k → ⊥
+  pub none_opens : Answers query rows (Ok None) → (k : ℕ) → OpensRun query rows k → ⊥
   unfolding Answers
   none_opens answers = answers
 
@@ -51,15 +50,15 @@ clears_says clears = (clears.rational, clears.enough)
 -- ---- an answer's number, and the row that it names
 
 -- a row that is named has its own number and the number 0; none has 0 and 0, and a refusal its number and no row
-pub found_at : (row : ℕ) → (found_result (At row) ≡ 0) × (found_row (At row) ≡ row)
+pub found_at : (row : ℕ) → (found_result (Ok (Some row)) ≡ 0) × (found_row (Ok (Some row)) ≡ row)
 unfolding found_result found_row
 found_at row = (refl, refl)
 
-pub found_none : (found_result Nowhere ≡ 0) × (found_row Nowhere ≡ 0)
+pub found_none : (found_result (Ok None) ≡ 0) × (found_row (Ok None) ≡ 0)
 unfolding found_result found_row
 found_none = (refl, refl)
 
-pub found_refused : (r : Refusal) → (found_result (Refused r) ≡ number r) × (found_row (Refused r) ≡ 0)
+pub found_refused : (r : Refusal) → (found_result (Err r) ≡ number r) × (found_row (Err r) ≡ 0)
 unfolding found_result found_row
 found_refused r = (refl, refl)
 

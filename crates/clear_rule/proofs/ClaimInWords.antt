@@ -1,6 +1,7 @@
 -- What the records of the claim come to, said without them: an answer to every weight and need holds each exact sum within a step between the row's lows and
 -- highs, of any rows that a passage wrote and of a passage's own; of refusals only 9 and 3 are answers about those; a row that is named, by itself or as a
 -- number, opens a run, all of whose steps are clear all the way, with their beginnings and their ends.
+use Rattle.std.specs.Prelude.{Err, None, Ok, Some}
 use Prim.Native.Nat.{ℕ, zero, suc, ◌+◌, ◌*◌, ◌≤◌, ◌<◌}
 use mathlib.Core.Bool.{true, false≢true}
 use mathlib.Core.List.{List}
@@ -11,14 +12,12 @@ use native.Mathlib.Omega.{arith}
 use lib.IntN.{ℤ, pos, negsuc, neg_ℤ, nat_abs, ◌*ℤ◌, one, *ℤ-one}
 use lib.ListN.{length, get_or}
 use lib.Signed.{non_neg}
-use Rattle.model.specs.Sheet.{scale, terms_of, starts_of, number}
+use Rattle.model.specs.Sheet.{scale, terms_of, starts_of, number, Outcome, refused_at}
 use Rattle.enclosure.specs.Exact.{State, exact_sum}
 use Rattle.model.specs.Passage.{rows_written}
 use Rattle.model.specs.Rows.{row_in, rows_in}
 use Rattle.model.specs.Step.{Row, no_row}
 use Rattle.enclosure.specs.Trust.{LiesWithin, state_after, start_of, SpannedOf}
-use Rattle.model.specs.declared.Outcome.{Outcome}
-use Rattle.model.specs.declared.Outcome.TheVariants.{Refused as RefusedAt}
 use Rattle.model.specs.declared.Refusal.{Refusal}
 use Rattle.model.specs.declared.Refusal.TheVariants.{OutOfRange, QueryOutOfRange}
 use Rattle.model.proofs.RefusalNumbers.{minus_not_natural}
@@ -26,11 +25,9 @@ use Rattle.model.specs.declared.Sheet.{Sheet}
 use Rattle.model.specs.declared.Term.{Term}
 use Rattle.ranges.proofs.Ranges.{length_tabulate, get_or_tabulate}
 use Rattle.laws.proofs.Passages.RowPlaces.{Quantities}
-use Rattle.clear_rule.specs.Clearance.{certain, found_number}
+use Rattle.clear_rule.specs.Clearance.{certain, found_number, Found}
 use Rattle.clear_rule.specs.Claim.{Answers, Clears, ClearsAllTheWay, EachClear, ClearOf, ClearFrom, Wrote, Said, SaidBy, SaidOf}
 use Rattle.clear_rule.specs.declared.Query.{Query}
-use Rattle.clear_rule.specs.declared.Found.{Found}
-use Rattle.clear_rule.specs.declared.Found.TheVariants.{At, Nowhere, Refused}
 use Rattle.clear_rule.proofs.SumsFit.{length_rows}
 use Rattle.clear_rule.proofs.ClearSpans.{Between, clear_spans, clear_from_spans}
 
@@ -73,7 +70,7 @@ copied_wrote sheet n count buffer copy wrote e = record { places = wrote.places;
 -- ---- refusals
 
 -- of a passage's own rows only 9 and 3 are answered, never 5 or 10
-pub own_refusal_number : (sheet : Sheet) (query : Query) (after : List ℤ) (outcome : Outcome) (r : Refusal) → SaidOf sheet query after outcome (Refused r) → (number r ≡ 9) ⊎ (number r ≡ 3)
+pub own_refusal_number : (sheet : Sheet) (query : Query) (after : List ℤ) (outcome : Outcome) (r : Refusal) → SaidOf sheet query after outcome (Err r) → (number r ≡ 9) ⊎ (number r ≡ 3)
 unfolding number
 own_refusal_number sheet query after outcome r said = go (said.refusals r refl)
   where
@@ -82,11 +79,11 @@ own_refusal_number sheet query after outcome r said = go (said.refusals r refl)
     go (inr e) = inr (ap number e.0)
 
 -- .. and 3 only where the sheet itself is refused by it
-pub own_refusal_3 : (sheet : Sheet) (query : Query) (after : List ℤ) (outcome : Outcome) → SaidOf sheet query after outcome (Refused OutOfRange) → outcome ≡ RefusedAt OutOfRange 0
+pub own_refusal_3 : (sheet : Sheet) (query : Query) (after : List ℤ) (outcome : Outcome) → SaidOf sheet query after outcome (Err OutOfRange) → outcome ≡ refused_at OutOfRange 0
 unfolding number
 own_refusal_3 sheet query after outcome said = go (said.refusals OutOfRange refl)
   where
-    go : (OutOfRange ≡ QueryOutOfRange) ⊎ ((OutOfRange ≡ OutOfRange) × (outcome ≡ RefusedAt OutOfRange 0)) → outcome ≡ RefusedAt OutOfRange 0
+    go : (OutOfRange ≡ QueryOutOfRange) ⊎ ((OutOfRange ≡ OutOfRange) × (outcome ≡ refused_at OutOfRange 0)) → outcome ≡ refused_at OutOfRange 0
     go (inl e) = absurd (let z : 3 ≡ 9 = ap number e in omega arith)
     go (inr e) = e.1
 
@@ -100,9 +97,9 @@ said_by_refusal n count buffer query m said = go said.found said.is
     minus (suc k) e = ap (λ (z : ℤ). nat_abs z) (sym e)
 
     go : (found : Found) → negsuc m ≡ found_number found → (r : Refusal) × (number r ≡ suc m)
-    go (At row) e = absurd (false≢true (ap non_neg e))
-    go Nowhere e = absurd (false≢true (ap non_neg e))
-    go (Refused r) e = (r, minus (number r) e)
+    go (Ok (Some row)) e = absurd (false≢true (ap non_neg e))
+    go (Ok None) e = absurd (false≢true (ap non_neg e))
+    go (Err r) e = (r, minus (number r) e)
 
 -- ---- what an answer says
 
@@ -124,24 +121,24 @@ module _ (sheet : Sheet) (query : Query) (after : List ℤ) (outcome : Outcome) 
 
 -- a number from 1 up is that of the row that is named, and 0 says none
 module _ (n count : ℕ) (buffer : List ℤ) (query : Query) where
-  pub said_by_row : (j : ℕ) → SaidBy n count buffer query (pos (suc j)) → Said n count buffer query (At (suc j))
+  pub said_by_row : (j : ℕ) → SaidBy n count buffer query (pos (suc j)) → Said n count buffer query (Ok (Some (suc j)))
   unfolding found_number
   said_by_row j said = go said.found said.is said.said
     where
-      go : (found : Found) → pos (suc j) ≡ found_number found → Said n count buffer query found → Said n count buffer query (At (suc j))
-      go (At row) e of_row = let same : row ≡ suc j = ap nat_abs (sym e) in subst (λ (row : ℕ). Said n count buffer query (At row)) same of_row
-      go Nowhere e of_none = absurd (omega (arith, ap nat_abs e))
-      go (Refused r) e of-refusal = absurd (minus_not_natural r _ e)
+      go : (found : Found) → pos (suc j) ≡ found_number found → Said n count buffer query found → Said n count buffer query (Ok (Some (suc j)))
+      go (Ok (Some row)) e of_row = let same : row ≡ suc j = ap nat_abs (sym e) in subst (λ (row : ℕ). Said n count buffer query (Ok (Some row))) same of_row
+      go (Ok None) e of_none = absurd (omega (arith, ap nat_abs e))
+      go (Err r) e of-refusal = absurd (minus_not_natural r _ e)
 
-  pub said_by_none : SaidBy n count buffer query (pos 0) → Said n count buffer query Nowhere
+  pub said_by_none : SaidBy n count buffer query (pos 0) → Said n count buffer query (Ok None)
   unfolding found_number Answers
   said_by_none said = go said.found said.is said.said
     where
-      go : (found : Found) → pos 0 ≡ found_number found → Said n count buffer query found → Said n count buffer query Nowhere
-      go (At zero) e of_row = absurd of_row.answers
-      go (At (suc row)) e of_row = absurd (omega (arith, ap nat_abs e))
-      go Nowhere e of_none = of_none
-      go (Refused r) e of-refusal = absurd (minus_not_natural r _ e)
+      go : (found : Found) → pos 0 ≡ found_number found → Said n count buffer query found → Said n count buffer query (Ok None)
+      go (Ok (Some zero)) e of_row = absurd of_row.answers
+      go (Ok (Some (suc row))) e of_row = absurd (omega (arith, ap nat_abs e))
+      go (Ok None) e of_none = of_none
+      go (Err r) e of-refusal = absurd (minus_not_natural r _ e)
 
 -- ---- a step that is clear all the way
 
@@ -167,7 +164,7 @@ module _ (sheet : Sheet) (query : Query) (rows : List Row) (found : Found) (clai
   row_clears j h e = claimed.certain_row j h e
 
   -- .. and so is each step of the run that is answered
-  pub run_clears : (j : ℕ) → found ≡ At (suc j) → (i : ℕ) → i < query.run → (u w : ℕ) → 0 < w → u ≤ w → (K : ℕ) → (get_or rows (j + i) no_row).degree ≤ K → Clears query (exact_sum (terms_of sheet) (sheet.head.step *ℤ pos u) (scale * w) K (state_after (terms_of sheet) sheet.head.step degrees state (j + i)))
+  pub run_clears : (j : ℕ) → found ≡ Ok (Some (suc j)) → (i : ℕ) → i < query.run → (u w : ℕ) → 0 < w → u ≤ w → (K : ℕ) → (get_or rows (j + i) no_row).degree ≤ K → Clears query (exact_sum (terms_of sheet) (sheet.head.step *ℤ pos u) (scale * w) K (state_after (terms_of sheet) sheet.head.step degrees state (j + i)))
   unfolding ClearsAllTheWay
   run_clears j e i h = claimed.run j i e h
 
@@ -177,6 +174,6 @@ module _ (sheet : Sheet) (query : Query) (rows : List Row) (found : Found) (clai
   unfolding ClearFrom ClearsAllTheWay
   row_clears_from j h e = claim.certain_row j h e
 
-  pub run_clears_from : (j : ℕ) → found ≡ At (suc j) → (i : ℕ) → i < query.run → (state : State) → LiesWithin (start_of (starts_of sheet) rows (j + i)) state → (u w : ℕ) → 0 < w → u ≤ w → (K : ℕ) → (get_or rows (j + i) no_row).degree ≤ K → Clears query (exact_sum (terms_of sheet) (sheet.head.step *ℤ pos u) (scale * w) K state)
+  pub run_clears_from : (j : ℕ) → found ≡ Ok (Some (suc j)) → (i : ℕ) → i < query.run → (state : State) → LiesWithin (start_of (starts_of sheet) rows (j + i)) state → (u w : ℕ) → 0 < w → u ≤ w → (K : ℕ) → (get_or rows (j + i) no_row).degree ≤ K → Clears query (exact_sum (terms_of sheet) (sheet.head.step *ℤ pos u) (scale * w) K state)
   unfolding ClearFrom ClearsAllTheWay
   run_clears_from j e i h = claim.run j i e h

@@ -20,10 +20,9 @@ use Rattle.model.specs.declared.Term.{Term}
 use Rattle.ranges.proofs.Ranges.{sum_ℤ_zero, sum_ℤ_single, length_tabulate}
 use Rattle.laws.proofs.Bounds.Reach.{scale_positive}
 use Rattle.laws.proofs.Passages.RowPlaces.{Quantities}
-use Rattle.clear_rule.specs.Clearance.{weight, end_for, certain}
+use Rattle.clear_rule.specs.Clearance.{weight, end_for, certain, Found}
 use Rattle.clear_rule.specs.Claim.{Clears, ClearsAllTheWay, ClearOf, ClearFrom}
 use Rattle.clear_rule.specs.declared.Query.{Query}
-use Rattle.clear_rule.specs.declared.Found.{Found}
 use Rattle.clear_rule.proofs.SumsFit.{takes_low, takes_high, end_of, assured_to, assured_is}
 
 -- ---- a single weight

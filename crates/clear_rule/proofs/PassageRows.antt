@@ -1,5 +1,6 @@
 -- The rows that a passage has written itself: they are in their ranges and in their places, so that of the questions only those on n and on the
 -- query are left; and demand 3 holds of them without a premise.
+use Rattle.std.specs.Prelude.{Err}
 use Prim.Native.Nat.{ℕ, ◌*◌, ◌≤◌, ◌<◌}
 use mathlib.Core.Bool.{Bool, true, false}
 use mathlib.Core.List.{List}
@@ -13,14 +14,12 @@ use lib.IntN.{ℤ, pos}
 use lib.ListN.{length, get_or, take}
 use lib.Seq.{length-take-le, get_or-take}
 use Rattle.ranges.specs.Range.{every}
-use Rattle.model.specs.Sheet.{most, most_steps, Verdict, passes, refuses, ask, ◌then◌, within, in_range, n_limits, head_verdict, sheet_verdict_to}
+use Rattle.model.specs.Sheet.{most, most_steps, Verdict, passes, refuses, ask, ◌then◌, within, in_range, n_limits, head_verdict, sheet_verdict_to, Outcome, refused_at}
 use Rattle.model.specs.Step.{Row, no_row}
 use Rattle.model.specs.Rows.{width, values_part, radii_part, lows_part, highs_part, part_place, written, rows_in}
 use Rattle.enclosure.specs.RowRange.{Printable}
 use Rattle.model.specs.Passage.{Run, refused, passage, rows_written}
 use Rattle.model.specs.declared.Limits.{Limits}
-use Rattle.model.specs.declared.Outcome.{Outcome}
-use Rattle.model.specs.declared.Outcome.TheVariants.{Refused as RefusedAt}
 use Rattle.model.specs.declared.Refusal.{Refusal}
 use Rattle.model.specs.declared.Refusal.TheVariants.{OutOfRange, TooFewPlaces, QueryOutOfRange, RowOutOfRange}
 use Rattle.model.specs.declared.Sheet.{Sheet}
@@ -32,11 +31,9 @@ use Rattle.laws.proofs.Passages.UnderWay.{RunInto}
 use Rattle.ranges.proofs.Ranges.{tabulate_is}
 use Rattle.ranges.proofs.EveryLaws.{every_all}
 use Rattle.laws.proofs.Text.Verdicts.{natural_passes, signed_passes}
-use Rattle.clear_rule.specs.Clearance.{count_limits, most_place, row_value_limits, row_radius_limits, query_within, row_within, clear_verdict, first_run, first_clear}
+use Rattle.clear_rule.specs.Clearance.{count_limits, most_place, row_value_limits, row_radius_limits, query_within, row_within, clear_verdict, first_run, first_clear, Found}
 use Rattle.clear_rule.specs.Claim.{Wrote, Said, SaidOf}
 use Rattle.clear_rule.specs.declared.Query.{Query}
-use Rattle.clear_rule.specs.declared.Found.{Found}
-use Rattle.clear_rule.specs.declared.Found.TheVariants.{Refused}
 use Rattle.clear_rule.proofs.SumsFit.{part_passes}
 use Rattle.clear_rule.proofs.FirstRun.{search_refuses_nothing}
 use Rattle.clear_rule.proofs.WholeClaim.{answered}
@@ -120,11 +117,11 @@ module _ (sheet : Sheet) (before : List ℤ) where
       ranged = unfold ask in rw (every_all _ count (λ j h. row_passes j (omega arith)))
 
   -- so that only these two can refuse: 10 is never met, nor is 5
-  pub written_refusals : (query : Query) (count : ℕ) → count ≤ length rows → (r : Refusal) → first_clear sheet.head.n count (written rows before) query ≡ Refused r → (r ≡ QueryOutOfRange) ⊎ ((r ≡ OutOfRange) × (within n_limits (pos sheet.head.n) ≡ false))
+  pub written_refusals : (query : Query) (count : ℕ) → count ≤ length rows → (r : Refusal) → first_clear sheet.head.n count (written rows before) query ≡ Err r → (r ≡ QueryOutOfRange) ⊎ ((r ≡ OutOfRange) × (within n_limits (pos sheet.head.n) ≡ false))
   written_refusals query count few r f = go (within n_limits (pos sheet.head.n)) (query_within sheet.head.n query) refl refl
     where
       -- the answer, by the two questions
-      told : (v : Verdict) → (in_range n_limits (pos sheet.head.n) then ask (query_within sheet.head.n query) QueryOutOfRange) ≡ v → elim v [ refuses r ↦ Refused r | passes ↦ first_run query (rows_in sheet.head.n count (written rows before)) ] ≡ Refused r
+      told : (v : Verdict) → (in_range n_limits (pos sheet.head.n) then ask (query_within sheet.head.n query) QueryOutOfRange) ≡ v → ◌≡◌ {A = Found} (elim v [ refuses r ↦ Err r | passes ↦ first_run query (rows_in sheet.head.n count (written rows before)) ]) (Err r)
       told v asked = sym (answered sheet.head.n count (written rows before) query {v = v} (own_verdict query count few ∙ asked)) ∙ f
 
       go : (n-passes query-passes : Bool) → within n_limits (pos sheet.head.n) ≡ n-passes → query_within sheet.head.n query ≡ query-passes → (r ≡ QueryOutOfRange) ⊎ ((r ≡ OutOfRange) × (within n_limits (pos sheet.head.n) ≡ false))
@@ -142,11 +139,11 @@ module _ (sheet : Sheet) (before : List ℤ) {after : List ℤ} {outcome : Outco
   own_wrote count few = rw into.1 (written_wrote sheet before count (omega (arith, count_is)))
 
   -- a sheet whose n is refused is refused by it
-  n_decides : within n_limits (pos sheet.head.n) ≡ false → outcome ≡ RefusedAt OutOfRange 0
+  n_decides : within n_limits (pos sheet.head.n) ≡ false → outcome ≡ refused_at OutOfRange 0
   unfolding refused
   n_decides e = into.0 ∙ ap (λ (run : Run). run.outcome) (passage_refused sheet (length before) (unfold sheet_verdict_to head_verdict in_range ask ◌then◌ in rw e))
 
-  pub own_refusals : (query : Query) {found : Found} → found ≡ first_clear sheet.head.n (rows_written sheet outcome) after query → (r : Refusal) → found ≡ Refused r → (r ≡ QueryOutOfRange) ⊎ ((r ≡ OutOfRange) × (outcome ≡ RefusedAt OutOfRange 0))
+  pub own_refusals : (query : Query) {found : Found} → found ≡ first_clear sheet.head.n (rows_written sheet outcome) after query → (r : Refusal) → found ≡ Err r → (r ≡ QueryOutOfRange) ⊎ ((r ≡ OutOfRange) × (outcome ≡ refused_at OutOfRange 0))
   own_refusals query e r f =
       ⊎_elim (λ (q : r ≡ QueryOutOfRange). inl q) (λ (p : (r ≡ OutOfRange) × (within n_limits (pos sheet.head.n) ≡ false)). inr (p.0, n_decides p.1)) (written_refusals sheet before query (rows_written sheet outcome) (omega (arith, count_is)) r (rw (← into.1) (sym e ∙ f)))
 

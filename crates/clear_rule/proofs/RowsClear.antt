@@ -1,5 +1,6 @@
 -- What a pilot may say: every exact state between a certain row's lows and highs clears the need, by the weights; and so, of every certain row that a passage
 -- wrote, does each exact sum within its step, by demand 3 up to the step and by the water between the rows within it.
+use Rattle.std.specs.Prelude.{Ok, Some}
 use Prim.Native.Nat.{ℕ, zero, suc, ◌+◌, ◌≤◌, ◌<◌}
 use mathlib.Core.Bool.{true}
 use mathlib.Core.List.{List}
@@ -21,11 +22,9 @@ use Rattle.model.specs.declared.Span.{Span}
 use Rattle.ranges.proofs.Ranges.{sum_ℤ_le, sum_ℤ_factor}
 use Rattle.enclosure.proofs.Spanned.{passage_spanned, spanned_prefix}
 use Rattle.enclosure.proofs.Trusted.{passage_trusted, trusted_prefix}
-use Rattle.clear_rule.specs.Clearance.{weight, end_for, certain}
+use Rattle.clear_rule.specs.Clearance.{weight, end_for, certain, Found}
 use Rattle.clear_rule.specs.Claim.{Answers, Clears, ClearsAllTheWay, EachClear, ClearOf, ClearFrom, Wrote}
 use Rattle.clear_rule.specs.declared.Query.{Query}
-use Rattle.clear_rule.specs.declared.Found.{Found}
-use Rattle.clear_rule.specs.declared.Found.TheVariants.{At}
 use Rattle.clear_rule.proofs.SumsFit.{length_rows, takes_low, takes_high, end_of, assured_to, assured_is}
 
 -- ---- a certain row
@@ -83,7 +82,7 @@ module _ (sheet : Sheet) (query : Query) (rows : List Row) where
   each_clear : (Clear : ℕ → Type 0) (found : Found) → Answers query rows found → ((j : ℕ) → j < length rows → certain query (get_or rows j no_row) ≡ true → Clear j) → EachClear query rows found Clear
   each_clear Clear found answers each = record { certain_row = each; run = λ j i e h. in_run j (rw e at answers) i h }
     where
-      in_run : (j : ℕ) → Answers query rows (At (suc j)) → (i : ℕ) → i < query.run → Clear (j + i)
+      in_run : (j : ℕ) → Answers query rows (Ok (Some (suc j))) → (i : ℕ) → i < query.run → Clear (j + i)
       in_run j answers i h = unfold Answers in each (j + i) (omega (arith, answers.0.counted)) (answers.0.certain_each i h)
 
   pub spanned_clears_from : SpannedOf sheet rows → (found : Found) → Answers query rows found → ClearFrom sheet query rows found

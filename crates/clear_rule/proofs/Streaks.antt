@@ -1,5 +1,6 @@
 -- One pass over the rows: how many certain ones in a row there are so far, and that every run that opened before them is broken. It finds the first
 -- run, or that there is none.
+use Rattle.std.specs.Prelude.{None, Ok, Some}
 use Prim.Native.Nat.{ℕ, suc, ◌+◌, ◌-◌, ◌≤◌, ◌<◌}
 use mathlib.Core.Bool.{Bool, true, false, cond}
 use mathlib.Core.List.{List}
@@ -15,7 +16,6 @@ use Rattle.ranges.proofs.Ranges.{before_or_past}
 use Rattle.ranges.proofs.EveryLaws.{every_all, every_fails}
 use Rattle.clear_rule.specs.Clearance.{opens, first_run}
 use Rattle.clear_rule.specs.declared.Query.{Query}
-use Rattle.clear_rule.specs.declared.Found.TheVariants.{At, Nowhere}
 use Rattle.clear_rule.proofs.FirstRun.{certainly, run_opens, run_broken, run_too_long, first_is, none_is}
 
 -- the last `streak` of the rows passed are certain, fewer than a run, and no run opens at a row before them
@@ -62,16 +62,16 @@ module _ (certainly : ℕ → Bool) (run : ℕ) where
 -- ---- the first run of some rows
 
 module _ (query : Query) (rows : List Row) {passed streak : ℕ} (s : Streak (certainly query rows) query.run passed streak) where
-  found_here : passed < length rows → certainly query rows passed ≡ true → suc streak ≡ query.run → At (passed + 1 - query.run + 1) ≡ first_run query rows
+  found_here : passed < length rows → certainly query rows passed ≡ true → suc streak ≡ query.run → Ok (Some (passed + 1 - query.run + 1)) ≡ first_run query rows
   found_here h e full =
       let number : passed + 1 - query.run + 1 ≡ suc (passed - streak) = omega (arith, s.counted) in
-      ap At number
+      ap (λ (j : ℕ). Ok (Some j)) number
       ∙ sym (first_is query rows (passed - streak) (omega arith) (record {
         passes = run_opens query rows (passed - streak) (omega (arith, s.counted)) (streak_full (certainly query rows) query.run s e full);
         none_before = λ j lt. run_broken query rows j (s.broken j (omega (arith, s.counted)));
       }))
 
-  pub found_nowhere : length rows ≤ passed → Nowhere ≡ first_run query rows
+  pub found_nowhere : length rows ≤ passed → (Ok None) ≡ first_run query rows
   found_nowhere h = sym (none_is query rows none)
     where
       none : (j : ℕ) → j < length rows → opens query rows j ≡ false
@@ -79,7 +79,7 @@ module _ (query : Query) (rows : List Row) {passed streak : ℕ} (s : Streak (ce
           ⊎_elim (λ (past : length rows < j + query.run). run_too_long query rows j past) (λ (room : j + query.run ≤ length rows). run_broken query rows j (s.broken j (omega (arith, s.short)))) (before_or_past (length rows) (j + query.run))
 
   -- one row more, as the code counts on: the run is full ..
-  pub counted_full : (more : Bool) → more ≡ certainly query rows passed → {next : ℕ} → next ≡ cond more (streak + 1) 0 → next ≡ query.run → passed < length rows → At (passed + 1 - query.run + 1) ≡ first_run query rows
+  pub counted_full : (more : Bool) → more ≡ certainly query rows passed → {next : ℕ} → next ≡ cond more (streak + 1) 0 → next ≡ query.run → passed < length rows → Ok (Some (passed + 1 - query.run + 1)) ≡ first_run query rows
   counted_full true e counts full h = found_here h (sym e) (omega arith)
   counted_full false e counts full h = absurd (omega (arith, s.short))
 

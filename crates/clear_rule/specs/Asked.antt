@@ -1,12 +1,10 @@
 -- What the search asks of the buffer and the query: that the rows are there, and that the questions before it passed, so that no sum leaves 64 bits.
-use Rattle.std.specs.Prelude.{ℕ, ◌≤◌, true, List, ◌≡◌, ℤ}
+use Rattle.std.specs.Prelude.{ℕ, ◌≤◌, true, List, ◌≡◌, ℤ, Ok, Some}
 use Rattle.ranges.specs.Range.{every}
 use Rattle.model.specs.Sheet.{most_steps}
 use Rattle.rows.specs.Room.{HasRow, HasRows}
-use Rattle.clear_rule.specs.Clearance.{query_within, row_within}
+use Rattle.clear_rule.specs.Clearance.{query_within, row_within, Found}
 use Rattle.clear_rule.specs.declared.Query.{Query}
-use Rattle.clear_rule.specs.declared.Found.{Found}
-use Rattle.clear_rule.specs.declared.Found.TheVariants.{At}
 
 -- row j can be weighed
 pub record Weighable (n j : ℕ) (buffer : List ℤ) (query : Query) : Type 0 where
@@ -23,4 +21,4 @@ pub record Searchable (n count : ℕ) (buffer : List ℤ) (query : Query) : Type
 
 -- an answer names a row that a passage can have
 unfoldable pub NamesRow : Found → Type 0
-NamesRow found = (row : ℕ) → found ≡ At row → row ≤ most_steps
+NamesRow found = (row : ℕ) → found ≡ Ok (Some row) → row ≤ most_steps

@@ -1,8 +1,8 @@
 -- Document 02, CR 2 and CR 6: what an answer says, and what a pilot may say of it over the exact sums: at every fraction of the step of a certain row the
 -- exact clearance is at least the need.
-use Rattle.std.specs.Prelude.{ℕ, zero, suc, ◌+◌, ◌*◌, ◌≤◌, ◌<◌, true, List, ◌⊎◌, ◌≡◌, ℤ, pos, ◌+ℤ◌, ◌*ℤ◌, length, get_or, take, ◌≤ℤ◌}
+use Rattle.std.specs.Prelude.{ℕ, zero, suc, ◌+◌, ◌*◌, ◌≤◌, ◌<◌, true, List, ◌⊎◌, ◌≡◌, ℤ, pos, ◌+ℤ◌, ◌*ℤ◌, length, get_or, take, ◌≤ℤ◌, Err, None, Ok, Some}
 use Rattle.ranges.specs.Range.{sum_ℤ}
-use Rattle.model.specs.Sheet.{scale, terms_of, starts_of}
+use Rattle.model.specs.Sheet.{scale, terms_of, starts_of, Outcome, refused_at}
 use Rattle.enclosure.specs.Exact.{State, exact_sum}
 use Rattle.model.specs.Step.{Row, no_row}
 use Rattle.model.specs.Rows.{rows_in}
@@ -12,12 +12,8 @@ use Rattle.model.specs.declared.Sheet.{Sheet}
 use Rattle.model.specs.declared.Term.{Term}
 use Rattle.model.specs.declared.Refusal.{Refusal}
 use Rattle.model.specs.declared.Refusal.TheVariants.{OutOfRange, QueryOutOfRange}
-use Rattle.model.specs.declared.Outcome.{Outcome}
-use Rattle.model.specs.declared.Outcome.TheVariants.{Refused as RefusedAt}
-use Rattle.clear_rule.specs.Clearance.{weight, certain, found_number}
+use Rattle.clear_rule.specs.Clearance.{weight, certain, found_number, Found}
 use Rattle.clear_rule.specs.declared.Query.{Query}
-use Rattle.clear_rule.specs.declared.Found.{Found}
-use Rattle.clear_rule.specs.declared.Found.TheVariants.{At, Nowhere, Refused}
 
 -- ---- what an answer says of the rows
 
@@ -28,10 +24,10 @@ pub record OpensRun (query : Query) (rows : List Row) (j : ℕ) : Type 0 where
 
 -- the row that is named, by its number from 1, opens a run, and no earlier one does; none is said only where no row does
 unfoldable pub Answers : Query → List Row → Found → Type 0
-Answers query rows (At zero) = ⊥
-Answers query rows (At (suc j)) = OpensRun query rows j × ((k : ℕ) → k < j → OpensRun query rows k → ⊥)
-Answers query rows Nowhere = (k : ℕ) → OpensRun query rows k → ⊥
-Answers query rows (Refused r) = Unit {0}
+Answers query rows (Ok (Some zero)) = ⊥
+Answers query rows (Ok (Some (suc j))) = OpensRun query rows j × ((k : ℕ) → k < j → OpensRun query rows k → ⊥)
+Answers query rows (Ok None) = (k : ℕ) → OpensRun query rows k → ⊥
+Answers query rows (Err r) = Unit {0}
 
 -- ---- what a pilot may say
 
@@ -52,7 +48,7 @@ ClearsAllTheWay query terms H d state =
 -- answered
 pub record EachClear (query : Query) (rows : List Row) (found : Found) (Clear : ℕ → Type 0) : Type 0 where
   pub certain_row : (j : ℕ) → j < length rows → certain query (get_or rows j no_row) ≡ true → Clear j
-  pub run : (j i : ℕ) → found ≡ At (suc j) → i < query.run → Clear (j + i)
+  pub run : (j i : ℕ) → found ≡ Ok (Some (suc j)) → i < query.run → Clear (j + i)
 
 -- From every exact state within the radii of the sheet's start and by any degrees no lower than the rows' own, followed from step to step over the
 -- sheet's own terms, the step of each such row is clear all the way. (`Said` says it of rows that the sheet's passage wrote.)
@@ -94,4 +90,4 @@ pub record SaidOf (sheet : Sheet) (query : Query) (after : List ℤ) (outcome : 
   pub answers : Answers query (rows_in sheet.head.n (rows_written sheet outcome) after) found
   pub clear : ClearOf sheet query (rows_in sheet.head.n (rows_written sheet outcome) after) found
   pub clear_from : ClearFrom sheet query (rows_in sheet.head.n (rows_written sheet outcome) after) found
-  pub refusals : (r : Refusal) → found ≡ Refused r → (r ≡ QueryOutOfRange) ⊎ ((r ≡ OutOfRange) × (outcome ≡ RefusedAt OutOfRange 0))
+  pub refusals : (r : Refusal) → found ≡ Err r → (r ≡ QueryOutOfRange) ⊎ ((r ≡ OutOfRange) × (outcome ≡ refused_at OutOfRange 0))

@@ -1,6 +1,6 @@
 -- Document 02, CR 2 and CR 6 ('first water for a ship', 'clear all the way'): the first row that opens a run of so many certain rows in a row. Rows are
 -- counted from 0 here and numbered from 1 in the answer.
-use Rattle.std.specs.Prelude.{ℕ, suc, ◌+◌, ◌*◌, Bool, cond, ◌&&◌, List, ◌≡◌, leb, ltb, ℤ, pos, neg_ℤ, ◌+ℤ◌, ◌*ℤ◌, length, get_or}
+use Rattle.std.specs.Prelude.{ℕ, suc, ◌+◌, ◌*◌, Bool, cond, ◌&&◌, List, ◌≡◌, leb, ltb, ℤ, pos, neg_ℤ, ◌+ℤ◌, ◌*ℤ◌, length, get_or, Err, None, Ok, Some, Option, Result}
 use Rattle.std.specs.Int.Signed.{le_z, lt_z}
 use Rattle.ranges.specs.Range.{sum_ℤ, every, least}
 use Rattle.model.specs.Sheet.{scale, most, most_steps, number, Verdict, passes, refuses, ask, ◌then◌, from◌to◌, ±◌, within, n_limits, in_range}
@@ -8,10 +8,15 @@ use Rattle.model.specs.Step.{no_span, Row, no_row}
 use Rattle.model.specs.Rows.{values_part, radii_part, lows_part, highs_part, width, part_place, rows_in}
 use Rattle.model.specs.declared.Limits.{Limits}
 use Rattle.model.specs.declared.Span.{Span}
+use Rattle.model.specs.declared.Refusal.{Refusal}
 use Rattle.model.specs.declared.Refusal.TheVariants.{TooFewPlaces, QueryOutOfRange, RowOutOfRange}
 use Rattle.clear_rule.specs.declared.Query.{Query}
-use Rattle.clear_rule.specs.declared.Found.{Found}
-use Rattle.clear_rule.specs.declared.Found.TheVariants.{At, Nowhere, Refused}
+
+-- ---- an answer
+
+-- the number, from 1, of the first row that opens such a run; or there is none; or why nothing was looked for
+abbrev pub Found : Type 0
+Found = Result (Option ℕ) Refusal
 
 -- ---- certain rows
 
@@ -43,7 +48,7 @@ opens query rows j = leb (j + query.run) (length rows) && every query.run (λ i.
 unfoldable pub first_run : Query → List Row → Found
 first_run query rows =
     let j = least (length rows) (opens query rows) in
-    cond (ltb j (length rows)) (At (suc j)) Nowhere
+    cond (ltb j (length rows)) (Ok (Some (suc j))) (Ok None)
 
 -- ---- what is asked first
 
@@ -114,19 +119,19 @@ clear_verdict n count rows query =
 -- of the first `count` rows of n quantities in a buffer
 unfoldable pub first_clear : ℕ → ℕ → List ℤ → Query → Found
 first_clear n count rows query =
-    elim (clear_verdict n count rows query) [ refuses r ↦ Refused r | passes ↦ first_run query (rows_in n count rows) ]
+    elim (clear_verdict n count rows query) [ refuses r ↦ Err r | passes ↦ first_run query (rows_in n count rows) ]
 
 -- its number: 0, or the refusal's
 unfoldable pub found_result : Found → ℕ
-found_result (At row) = 0
-found_result Nowhere = 0
-found_result (Refused r) = number r
+found_result (Ok (Some row)) = 0
+found_result (Ok None) = 0
+found_result (Err r) = number r
 
 -- the row that it names, from 1, and 0 where it names none
 unfoldable pub found_row : Found → ℕ
-found_row (At row) = row
-found_row Nowhere = 0
-found_row (Refused r) = 0
+found_row (Ok (Some row)) = row
+found_row (Ok None) = 0
+found_row (Err r) = 0
 
 -- an answer has the number, and names the row, of the one that is meant
 pub record Names (found meant : Found) : Type 0 where
@@ -135,6 +140,6 @@ pub record Names (found meant : Found) : Type 0 where
 
 -- as one number, for C: the row's, 0 for none, or a refusal's with a minus
 unfoldable pub found_number : Found → ℤ
-found_number (At row) = pos row
-found_number Nowhere = pos 0
-found_number (Refused r) = neg_ℤ (pos (number r))
+found_number (Ok (Some row)) = pos row
+found_number (Ok None) = pos 0
+found_number (Err r) = neg_ℤ (pos (number r))

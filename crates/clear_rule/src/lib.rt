@@ -14,9 +14,4 @@ pub struct Query {
 }
 
 // The number, from 1, of the first row that opens such a run; or there is none; or why nothing was looked for.
-#[derive(Clone, Copy)]
-pub enum Found {
-    At(usize),
-    Nowhere,
-    Refused(Refusal),
-}
+pub type Found = Result<Option<usize>, Refusal>;

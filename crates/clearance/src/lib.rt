@@ -16,7 +16,7 @@ use clear_search::{first_run, query_within, rows_within};
 use limits::natural_within;
 use model::{Limits, MOST_QUANTITIES, MOST_STEPS, Outcome, Refusal, Sheet, minus_number};
 use passage::{rows_written, run};
-use rows::width;
+use rows::{Rows, width};
 
 // A count of rows: 0..240.
 const COUNT: Limits = Limits {
@@ -25,27 +25,28 @@ const COUNT: Limits = Limits {
 };
 
 // The first of `count` rows of n quantities that opens a run of certain rows. Nothing past the count is looked at.
-pub fn first_clear(n: usize, count: usize, rows: &[i64], query: Query) -> Found
-    ensures found { result ≡ clearance.first_clear n count rows.now query }
-    ensures said { Said n count rows.now query result }
-    ensures numbered { clearance.Names result (clearance.first_clear n count rows.now query) }
+pub fn first_clear(n: usize, count: usize, rows: &[i64], query: &Query) -> Found
+    ensures found { result ≡ clearance.first_clear n count rows.now query.now }
+    ensures said { Said n count rows.now query.now result }
+    ensures numbered { clearance.Names result (clearance.first_clear n count rows.now query.now) }
 {
     if !natural_within(limits::N, n as u64) {
-        return Found::Refused(Refusal::OutOfRange);
+        return Err(Refusal::OutOfRange);
     }
     if !natural_within(COUNT, count as u64) {
-        return Found::Refused(Refusal::OutOfRange);
+        return Err(Refusal::OutOfRange);
     }
     if rows.len() < count * width(n) {
-        return Found::Refused(Refusal::TooFewPlaces);
+        return Err(Refusal::TooFewPlaces);
     }
     if !query_within(n, query) {
-        return Found::Refused(Refusal::QueryOutOfRange);
+        return Err(Refusal::QueryOutOfRange);
     }
-    if !rows_within(rows, n, count) {
-        return Found::Refused(Refusal::RowOutOfRange);
+    let rows = Rows::of(rows, n, count);
+    if !rows_within(rows) {
+        return Err(Refusal::RowOutOfRange);
     }
-    first_run(rows, n, count, query)
+    Ok(first_run(rows, query))
 }
 
 // An answer as one number: the row's, 0 for none, or a refusal's with a minus.
@@ -55,9 +56,9 @@ fn found_number(found: Found) -> i64
     ensures { result ≡ clearance.found_number found }
 {
     match found {
-        Found::At(row) => row as i64,
-        Found::Nowhere => 0,
-        Found::Refused(refusal) => minus_number(refusal),
+        Ok(Some(row)) => row as i64,
+        Ok(None) => 0,
+        Err(refusal) => minus_number(refusal),
     }
 }
 
@@ -74,17 +75,17 @@ pub fn planner_first_clear(
     ensures found { result ≡ clearance.found_number (clearance.first_clear n count rows.now (record { weights = weights.now; base = base; need = need; run = run })) }
     ensures said { SaidBy n count rows.now (record { weights = weights.now; base = base; need = need; run = run }) result }
 {
-    let lent = *weights;
     let query = Query {
-        weights: lent,
+        weights: *weights,
         base,
         need,
         run,
     };
-    found_number(first_clear(n, count, rows, query))
+    found_number(first_clear(n, count, rows, &query))
 }
 
-// What came of a passage, and the first run of certain rows among those that it wrote.
+// What came of a passage, and the first run of certain rows among those that it wrote. Stays: two answers, of which neither says whether
+// the other is there (clauses `ended`, `found`).
 #[derive(Clone, Copy)]
 pub struct RunFound {
     pub outcome: Outcome,
@@ -92,19 +93,18 @@ pub struct RunFound {
 }
 
 // Runs the passage of a sheet given as numbers, as `passage::run` does, and looks through the rows that it wrote.
-pub fn run_and_find(sheet: Sheet, rows: &mut [i64], query: Query) -> RunFound
-    ensures ended { result.outcome ≡ (passage.passage sheet (length rows.old)).outcome }
-    ensures leaves { Leaves sheet (passage.passage sheet (length rows.old)) rows.old rows.new }
-    ensures numbered { Gives result.outcome (printed_result (passage.passage sheet (length rows.old)).outcome) (refused_step (passage.passage sheet (length rows.old)).outcome) }
-    ensures found { result.found ≡ clearance.first_clear sheet.head.n (passage.rows_written sheet result.outcome) rows.new query }
-    ensures said { SaidOf sheet query rows.new result.outcome result.found }
-    ensures found_numbered { clearance.Names result.found (clearance.first_clear sheet.head.n (passage.rows_written sheet result.outcome) rows.new query) }
+pub fn run_and_find(sheet: &Sheet, rows: &mut [i64], query: &Query) -> RunFound
+    ensures ended { result.outcome ≡ (passage.passage sheet.now (length rows.old)).outcome }
+    ensures leaves { Leaves sheet.now (passage.passage sheet.now (length rows.old)) rows.old rows.new }
+    ensures numbered { Gives result.outcome (printed_result (passage.passage sheet.now (length rows.old)).outcome) (refused_step (passage.passage sheet.now (length rows.old)).outcome) }
+    ensures found { result.found ≡ clearance.first_clear sheet.now.head.n (passage.rows_written sheet.now result.outcome) rows.new query.now }
+    ensures said { SaidOf sheet.now query.now rows.new result.outcome result.found }
+    ensures found_numbered { clearance.Names result.found (clearance.first_clear sheet.now.head.n (passage.rows_written sheet.now result.outcome) rows.new query.now) }
 {
     let outcome = run(sheet, rows);
-    let n = sheet.head.n;
     let count = rows_written(sheet, outcome);
     RunFound {
         outcome,
-        found: first_clear(n, count, rows, query),
+        found: first_clear(sheet.head.n, count, rows, query),
     }
 }

@@ -4,13 +4,13 @@
 #![tactic(auto)]
 
 use clearance::{Found, Query, run_and_find};
-use model::{Head, MOST_QUANTITIES, MOST_TERMS, Quantity, Sheet, Start, Term, Terms};
+use model::{Head, MOST_QUANTITIES, MOST_TERMS, Quantity, Sheet, Term, Terms};
 use std::io;
 
 // One term in the rate of the first of so many quantities, from one whole, over so many steps.
 fn sheet(n: usize, steps: usize, step: i64, term: Term) -> Sheet {
     let quantity = Quantity {
-        start: Start::Reading(16777216),
+        start: Some(16777216),
         radius: 0,
     };
     Sheet {
@@ -51,17 +51,12 @@ fn rising(steps: usize, step: i64) -> Sheet {
     sheet(1, steps, step, term)
 }
 
-// A number behind some words.
-fn print(rt: &HostRuntime, words: &str, number: u64) -> io::Result<()> {
-    print!(rt; "{words}{number}")
-}
-
 // What was found.
 fn print_found(rt: &HostRuntime, found: Found) -> io::Result<()> {
     match found {
-        Found::At(row) => print(rt, " first=", row as u64),
-        Found::Nowhere => print(rt, " first=", 0),
-        Found::Refused(refusal) => print(rt, " refused=", model::number(refusal)),
+        Ok(Some(row)) => println!(rt; " first={row}"),
+        Ok(None) => println!(rt; " first=0"),
+        Err(refusal) => println!(rt; " refused={}", model::number(refusal)),
     }
 }
 
@@ -76,11 +71,11 @@ fn ask(rt: &HostRuntime, sheet: Sheet, weight: i64, need: i64, run: usize) -> io
         run,
     };
     let mut rows = [0i64; 15];
-    let came = run_and_find(sheet, &mut rows, query);
-    print(rt, "result=", model::result(came.outcome))?;
-    print(rt, " at=", model::refused_step(came.outcome))?;
-    print_found(rt, came.found)?;
-    println!(rt)
+    let came = run_and_find(&sheet, &mut rows, &query);
+    let result = model::result(came.outcome);
+    let at = model::refused_step(came.outcome);
+    print!(rt; "result={result} at={at}")?;
+    print_found(rt, came.found)
 }
 
 // One row, 22020096 within 349534, and from 11184802 to 22369630 all the way: at the need, and a unit short of it; a run of

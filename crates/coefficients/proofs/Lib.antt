@@ -1,5 +1,4 @@
--- A table of coefficients: one entry, one term more, one order more, all orders.
-mod Entries
+-- A table of coefficients: one term more, one order more, all orders.
 mod TermByTerm
 pub mod Filling
 pub mod Filled

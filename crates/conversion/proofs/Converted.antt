@@ -1,4 +1,5 @@
 -- What the conversion prints, by what a stored sheet is read as and what its first part comes to; with places enough it is document 02's.
+use Rattle.std.specs.Prelude.{Err, Ok}
 use Prim.Native.Nat.{ℕ, suc, ◌-◌, ◌*◌, ◌≤◌, ◌<◌}
 use mathlib.Core.Bool.{true, false}
 use mathlib.Core.List.{List, [], ◌++◌}
@@ -11,7 +12,7 @@ use lib.IntN.{ℤ}
 use lib.ListN.{length, get_or, take}
 use lib.Seq.{take_all}
 use Rattle.ranges.specs.Range.{bytes}
-use Rattle.model.specs.Sheet.{most_bytes, most_quantities, most_steps, stored_steps, number, result, refused_step, passes, sheet_verdict_to, no_head, no_sheet}
+use Rattle.model.specs.Sheet.{most_bytes, most_quantities, most_steps, stored_steps, number, result, refused_step, passes, sheet_verdict_to, no_head, no_sheet, Outcome, not_refused, refused_at}
 use Rattle.model.specs.Reading.{read_sheet_to}
 use Rattle.model.specs.Step.{Row, no_row}
 use Rattle.model.specs.Passage.{small, Run, refused, run, passage, places_needed, rows_written}
@@ -24,8 +25,6 @@ use Rattle.model.specs.declared.Sheet.{Sheet}
 use Rattle.model.specs.declared.ReadSheet.{ReadSheet}
 use Rattle.model.specs.declared.Refusal.{Refusal}
 use Rattle.model.specs.declared.Refusal.TheVariants.{Oversized, TooLarge}
-use Rattle.model.specs.declared.Outcome.{Outcome}
-use Rattle.model.specs.declared.Outcome.TheVariants.{Accepted, Refused}
 use Rattle.stored.proofs.Conversion.{first_passes, comes_out}
 use Rattle.stored.proofs.LentInWords.{lent_refused, lent_short, lent_long}
 use Rattle.ranges.proofs.Ranges.{before_or_past}
@@ -51,7 +50,7 @@ use Rattle.conversion.specs.Converted.{ComesOutWith, ConvertsAlike}
 -- ---- the two parts
 
 module _ (sheet : Sheet) (balls : List Ball) where
-  pub parts_refused : small balls ≡ false → parts_text most_steps sheet balls ≡ outcome_text (Refused TooLarge (suc most_steps))
+  pub parts_refused : small balls ≡ false → parts_text most_steps sheet balls ≡ outcome_text (refused_at TooLarge (suc most_steps))
   unfolding parts_text
   parts_refused e = rw (e, parts_text)
 
@@ -62,11 +61,11 @@ module _ (sheet : Sheet) (balls : List Ball) where
 -- ---- a sheet of more steps than a passage may have
 
 module _ (sheet : Sheet) (first : Run) where
-  split_refused : {r : Refusal} {step : ℕ} → first.outcome ≡ Refused r step → split_text most_steps sheet first ≡ outcome_text (Refused r step)
+  split_refused : {r : Refusal} {step : ℕ} → first.outcome ≡ refused_at r step → split_text most_steps sheet first ≡ outcome_text (refused_at r step)
   unfolding split_text
   split_refused e = rw (e, split_text)
 
-  split_accepted : first.outcome ≡ Accepted → split_text most_steps sheet first ≡ parts_text most_steps sheet (last_balls first.rows)
+  split_accepted : first.outcome ≡ not_refused → split_text most_steps sheet first ≡ parts_text most_steps sheet (last_balls first.rows)
   unfolding split_text parts_text
   split_accepted e = rw (e, split_text)
 
@@ -88,12 +87,12 @@ module _ (sheet : Sheet) {first : Sheet} (is : first ≡ first_part most_steps s
   unfolding lent
   kept_early = rw kept.0 (omega (arith, passage_step (first_part most_steps sheet) (length before)))
 
-  pub kept_refused : {r : Refusal} {step : ℕ} → outcome ≡ Refused r step → outcome_text outcome ≡ split_text most_steps sheet (passage (first_part most_steps sheet) (length before))
+  pub kept_refused : {r : Refusal} {step : ℕ} → outcome ≡ refused_at r step → outcome_text outcome ≡ split_text most_steps sheet (passage (first_part most_steps sheet) (length before))
   unfolding lent
   kept_refused told = ap outcome_text told ∙ sym (split_refused sheet lent (sym kept.0 ∙ told))
 
   -- or accepted, and then there is a row for each step
-  module _ (told : outcome ≡ Accepted) where
+  module _ (told : outcome ≡ not_refused) where
     count : length lent.rows ≡ most_steps
     unfolding lent rows_written first_part with_steps
     count = (rows_of_passage (first_part most_steps sheet) (length before)).count ∙ ap (rows_written (first_part most_steps sheet)) (sym kept.0 ∙ told)
@@ -128,15 +127,15 @@ abbrev read_as : List ℕ → ReadSheet
 read_as text = read_sheet_to stored_steps text
 
 module _ (runs : Sheet → Run) (text : List ℕ) where
-  by_refused : {r : Refusal} {step : ℕ} → (read_as text).outcome ≡ Refused r step → converted_by most_steps stored_steps runs text ≡ outcome_text (Refused r step)
+  by_refused : {r : Refusal} {step : ℕ} → (read_as text).outcome ≡ refused_at r step → converted_by most_steps stored_steps runs text ≡ outcome_text (refused_at r step)
   unfolding converted_by
   by_refused e = rw (e, converted_by)
 
-  by_short : (read_as text).outcome ≡ Accepted → (read_as text).sheet.head.steps ≤ most_steps → converted_by most_steps stored_steps runs text ≡ text
+  by_short : (read_as text).outcome ≡ not_refused → (read_as text).sheet.head.steps ≤ most_steps → converted_by most_steps stored_steps runs text ≡ text
   unfolding converted_by
   by_short e short = rw (e, converted_by, le-leb (read_as text).sheet.head.steps most_steps short)
 
-  by_long : (read_as text).outcome ≡ Accepted → most_steps < (read_as text).sheet.head.steps → converted_by most_steps stored_steps runs text ≡ split_text most_steps (read_as text).sheet (runs (first_part most_steps (read_as text).sheet))
+  by_long : (read_as text).outcome ≡ not_refused → most_steps < (read_as text).sheet.head.steps → converted_by most_steps stored_steps runs text ≡ split_text most_steps (read_as text).sheet (runs (first_part most_steps (read_as text).sheet))
   unfolding converted_by
   by_long e long = rw (e, converted_by, lt-leb (read_as text).sheet.head.steps most_steps long)
 
@@ -149,11 +148,11 @@ no_rows rows before none = rw none
 pub length_refused : (outcome : Outcome) → refused_step outcome ≤ suc most_steps → length (outcome_text outcome) ≤ most_bytes
 length_refused outcome early = omega (arith, length_outcome outcome early)
 
-not_oversized : Accepted ≡ Refused Oversized 0 → ⊥
+not_oversized : not_refused ≡ refused_at Oversized 0 → ⊥
 unfolding result number
 not_oversized e = omega (arith, ap result e)
 
-accepted_fits : (text : List ℕ) → (read_as text).outcome ≡ Accepted → length text ≤ most_bytes
+accepted_fits : (text : List ℕ) → (read_as text).outcome ≡ not_refused → length text ≤ most_bytes
 accepted_fits text e = ⊎_elim too_long (λ (h : length text ≤ most_bytes). h) (before_or_past most_bytes (length text))
   where
     too_long : most_bytes < length text → length text ≤ most_bytes
@@ -163,7 +162,7 @@ module _ (text : List ℕ) {read : ReadSheet} (is : read ≡ read_as text) (befo
   came : {outcome : Outcome} → read.outcome ≡ outcome → (read_as text).outcome ≡ outcome
   came told = ap (λ (x : ReadSheet). x.outcome) (sym is) ∙ told
 
-  module _ {r : Refusal} {step : ℕ} (told : read.outcome ≡ Refused r step) where
+  module _ {r : Refusal} {step : ℕ} (told : read.outcome ≡ refused_at r step) where
     pub refused_printed : outcome_text read.outcome ≡ converted_lent text (length before)
     unfolding converted_lent
     refused_printed = ap outcome_text told ∙ sym (by_refused _ text (came told))
@@ -175,7 +174,7 @@ module _ (text : List ℕ) {read : ReadSheet} (is : read ≡ read_as text) (befo
     unfolding refused_step
     refused_early = rw told (omega (arith, (refused_is_zeros stored_steps text (came told)).before_steps))
 
-  module _ (told : read.outcome ≡ Accepted) where
+  module _ (told : read.outcome ≡ not_refused) where
     pub read_passes : sheet_verdict_to stored_steps read.sheet ≡ passes
     read_passes = rw is (accepted_is_acceptable stored_steps text (came told)).verdict
 
@@ -207,8 +206,8 @@ module _ (text : List ℕ) (places : ℕ) where
   rows_either P none some = go (read_as text).outcome refl
     where
       go : (outcome : Outcome) → (read_as text).outcome ≡ outcome → P (split_lent text places).rows
-      go (Refused r step) e = unfold refused in rw (lent_refused text places e) none
-      go Accepted e =
+      go (Err refused) e = unfold refused in rw (lent_refused text places e) none
+      go (Ok done) e =
           ⊎_elim (λ (long : most_steps < (read_as text).sheet.head.steps). rw (lent_long text places e long) some) (λ (short : (read_as text).sheet.head.steps ≤ most_steps). rw (lent_short text places e short) none) (before_or_past most_steps (read_as text).sheet.head.steps)
 
   wide : Wide (first_part most_steps (read_as text).sheet).head.n (split_lent text places).rows
@@ -233,13 +232,13 @@ pub enough_is_converted : (text : List ℕ) (places : ℕ) → (most_steps < (re
 unfolding converted_lent converted
 enough_is_converted text places enough = go (read_as text).outcome refl
   where
-    runs : (read_as text).outcome ≡ Accepted → most_steps < (read_as text).sheet.head.steps → passage (first_part most_steps (read_as text).sheet) places ≡ run (first_part most_steps (read_as text).sheet)
+    runs : (read_as text).outcome ≡ not_refused → most_steps < (read_as text).sheet.head.steps → passage (first_part most_steps (read_as text).sheet) places ≡ run (first_part most_steps (read_as text).sheet)
     runs e long =
         passage_runs (first_part most_steps (read_as text).sheet) places (first_passes stored_steps most_steps most_steps (read_as text).sheet (accepted_is_acceptable stored_steps text e).verdict (omega arith) (le_refl most_steps)) (unfold places_needed first_part with_steps in enough long)
 
     go : (outcome : Outcome) → (read_as text).outcome ≡ outcome → converted_by most_steps stored_steps (λ sheet. passage sheet places) text ≡ converted_by most_steps stored_steps run text
-    go (Refused r step) e = by_refused _ text e ∙ sym (by_refused run text e)
-    go Accepted e =
+    go (Err refused) e = by_refused _ text e ∙ sym (by_refused run text e)
+    go (Ok done) e =
         ⊎_elim (λ (long : most_steps < (read_as text).sheet.head.steps). by_long _ text e long ∙ ap (split_text most_steps (read_as text).sheet) (runs e long) ∙ sym (by_long run text e long)) (λ (short : (read_as text).sheet.head.steps ≤ most_steps). by_short _ text e short ∙ sym (by_short run text e short)) (before_or_past most_steps (read_as text).sheet.head.steps)
 
 -- places for the most quantities are enough for every sheet
@@ -250,8 +249,8 @@ most_are_enough text places enough = enough_is_converted text places (λ long. l
     quantities = go (read_as text).outcome refl
       where
         go : (outcome : Outcome) → (read_as text).outcome ≡ outcome → (read_as text).sheet.head.n ≤ most_quantities
-        go Accepted e = few_in_sheet stored_steps (read_as text).sheet (accepted_is_acceptable stored_steps text e).verdict
-        go (Refused r step) e = unfold no_sheet no_head in rw (refused_is_zeros stored_steps text e).zeros (omega arith)
+        go (Ok done) e = few_in_sheet stored_steps (read_as text).sheet (accepted_is_acceptable stored_steps text e).verdict
+        go (Err refused) e = unfold no_sheet no_head in rw (refused_is_zeros stored_steps text e).zeros (omega arith)
 
 -- ---- how a stored sheet comes out
 
@@ -279,7 +278,7 @@ alike_by_front room input bytes enough e = record { reading = reading; text = al
     reading = sym (read_from_front stored_steps room input enough) ∙ ap (read_sheet_to stored_steps) (sym e)
 
     alike : (outcome : Outcome) → (read_as input).outcome ≡ outcome → converted input ≡ converted bytes
-    alike (Refused r step) f =
+    alike (Err refused) f =
         unfold converted in
         by_refused run input f ∙ sym (by_refused run bytes (ap (λ (x : ReadSheet). x.outcome) (sym reading) ∙ f))
-    alike Accepted f = ap converted (sym (e ∙ take_all room input (omega (arith, accepted_fits input f))))
+    alike (Ok done) f = ap converted (sym (e ∙ take_all room input (omega (arith, accepted_fits input f))))

@@ -16,10 +16,10 @@ ghost use Rattle.conversion.specs.Converted.{ComesOutWith, ConvertsAlike};
 
 use answer::{SHEET_LENGTH, front};
 use decimal::put_front;
-use model::{Balls, MOST_BYTES, MOST_STEPS, Outcome, Refusal, Sheet};
+use model::{Balls, MOST_BYTES, MOST_STEPS, Refusal, Refused, STORED_STEPS, Sheet};
 use passage::run;
-use rows::ROWS_LENGTH;
-use sheet::read_stored;
+use rows::{ROWS_LENGTH, Row};
+use sheet::read;
 use sheet_parts::{balls_of, first_part, second_part};
 use sheet_text::put_sheet;
 use taylor::small;
@@ -29,15 +29,16 @@ use text::put_outcome;
 pub const CONVERTED_LENGTH: usize = MOST_BYTES;
 
 // The two sheets with an empty line between them, or refusal 6 where the second cannot start from these values and radii.
-fn put_parts(text: &mut [u8], sheet: Sheet, balls: Balls) -> usize
-    requires sheet_value { sheet_verdict_to stored_steps sheet ≡ passes }
-    requires most_steps_lt_steps { most_steps < sheet.head.steps }
-    ensures put { Put text.old 0 (model.parts_text most_steps sheet (balls_of sheet.head.n balls)) result text.new }
+fn put_parts(text: &mut [u8], sheet: &Sheet, balls: &Balls) -> usize
+    requires sheet_value { sheet_verdict_to stored_steps sheet.now ≡ passes }
+    requires most_steps_lt_steps { most_steps < sheet.now.head.steps }
+    ensures put { Put text.old 0 (model.parts_text most_steps sheet.now (balls_of sheet.now.head.n balls.now)) result text.new }
     ensures bounded { result ≤ most_bytes }
 {
-    if !small(sheet.head.n, &balls.values, &balls.radii) {
+    if !small(&balls[..sheet.head.n]) {
         let step = MOST_STEPS + 1;
-        return put_outcome(text, 0, Outcome::Refused(Refusal::TooLarge, step));
+        let refusal = Refusal::TooLarge;
+        return put_outcome(text, 0, Err(Refused { refusal, step }));
     }
     let first = put_sheet(text, 0, first_part(sheet));
     let parted = put_front(text, first, b"\n");
@@ -45,19 +46,19 @@ fn put_parts(text: &mut [u8], sheet: Sheet, balls: Balls) -> usize
 }
 
 // A sheet of more steps than a passage may have: runs its first part into `rows`, and prints the two parts or the refusal.
-fn split(sheet: Sheet, rows: &mut [i64], text: &mut [u8]) -> usize
-    requires sheet_value { sheet_verdict_to stored_steps sheet ≡ passes }
-    requires most_steps_lt_steps { most_steps < sheet.head.steps }
-    ensures put { Put text.old 0 (model.split_text most_steps sheet (passage (model.first_part most_steps sheet) (length rows.old))) result text.new }
-    ensures written { rows.new ≡ written (passage (model.first_part most_steps sheet) (length rows.old)).rows rows.old }
+fn split(sheet: &Sheet, rows: &mut [i64], text: &mut [u8]) -> usize
+    requires sheet_value { sheet_verdict_to stored_steps sheet.now ≡ passes }
+    requires most_steps_lt_steps { most_steps < sheet.now.head.steps }
+    ensures put { Put text.old 0 (model.split_text most_steps sheet.now (passage (model.first_part most_steps sheet.now) (length rows.old))) result text.new }
+    ensures written { rows.new ≡ written (passage (model.first_part most_steps sheet.now) (length rows.old)).rows rows.old }
     ensures bounded { result ≤ most_bytes }
 {
-    let outcome = run(first_part(sheet), rows);
-    if let Outcome::Refused(_, _) = outcome {
+    let outcome = run(&first_part(sheet), rows);
+    if let Err(_) = outcome {
         return put_outcome(text, 0, outcome);
     }
-    let balls = balls_of(sheet.head.n, rows, MOST_STEPS - 1);
-    put_parts(text, sheet, balls)
+    let last = Row::at(rows, sheet.head.n, MOST_STEPS - 1);
+    put_parts(text, sheet, &balls_of(last))
 }
 
 // Converts a stored sheet into `text`: as it is where it has no more steps than a passage may have, and otherwise in two parts,
@@ -68,16 +69,14 @@ pub fn planner_convert(sheet: &[u8], rows: &mut [i64], text: &mut [u8]) -> usize
     ensures leaves { Leaves (model.first_part most_steps (read_sheet_to stored_steps sheet.now).sheet) (split_lent sheet.now (length rows.old)) rows.old rows.new }
     ensures comes_out { ComesOutWith (length rows.old) sheet.now }
 {
-    let reading = read_stored(sheet);
-    let outcome = reading.outcome;
-    if let Outcome::Refused(_, _) = outcome {
-        return put_outcome(text, 0, outcome);
+    let reading = read(sheet, STORED_STEPS as u32);
+    if let Err(_) = reading.outcome {
+        return put_outcome(text, 0, reading.outcome);
     }
-    let read_as = reading.sheet;
-    if read_as.head.steps <= MOST_STEPS {
+    if reading.sheet.head.steps <= MOST_STEPS {
         return put_front(text, 0, sheet);
     }
-    split(read_as, rows, text)
+    split(&reading.sheet, rows, text)
 }
 
 // Converts a stored sheet into `text`, by way of rows of its own, which suffice for every sheet. The text has room for the

@@ -5,7 +5,7 @@ use mathlib.Core.Path.{◌≡◌, refl, ap}
 use mathlib.Core.List.{List, [], ◌∷◌}
 use lib.IntN.{ℤ}
 use lib.ListN.{length}
-use Rattle.model.specs.Sheet.{result, refused_step, Gives, most_steps, Verdict, passes, refuses, sheet_verdict, terms_of}
+use Rattle.model.specs.Sheet.{Outcome, refused_at, result, refused_step, Gives, most_steps, Verdict, passes, refuses, sheet_verdict, terms_of}
 use Rattle.model.specs.LikeTerms.{gathered}
 use Rattle.model.specs.Step.{Row}
 use Rattle.model.specs.Passage.{Advance, moves, stops, advance, Run, go_on, follow, places_needed, run, passage, refused, step_of}
@@ -15,8 +15,6 @@ use Rattle.model.specs.declared.Ball.{Ball}
 use Rattle.model.specs.declared.Sheet.{Sheet}
 use Rattle.model.specs.declared.Refusal.{Refusal}
 use Rattle.model.specs.declared.Refusal.TheVariants.{TooFewPlaces}
-use Rattle.model.specs.declared.Outcome.{Outcome}
-use Rattle.model.specs.declared.Outcome.TheVariants.{Refused}
 use Rattle.laws.proofs.Passages.RowPlaces.{Wide, rows_in_written}
 use Rattle.laws.proofs.Passages.RowsOfPassage.{rows_of_passage, passage_refused, passage_too_few_places, passage_runs}
 use Rattle.laws.proofs.Passages.SingleSteps.{step_of_refused, step_of_passing}
@@ -39,14 +37,14 @@ rows_leave sheet run before wide trusted spanned e =
 
 module _ (sheet : Sheet) (buffer : List ℤ) where
   -- no row is written, and the buffer is as it was
-  before_steps : (r : Refusal) → passage sheet (length buffer) ≡ refused r 0 → RunInto (passage sheet (length buffer)) buffer buffer (Refused r 0)
+  before_steps : (r : Refusal) → passage sheet (length buffer) ≡ refused r 0 → RunInto (passage sheet (length buffer)) buffer buffer (refused_at r 0)
   unfolding refused written places
   before_steps r e = (rw e, rw e)
 
-  pub run_refused : {r : Refusal} → sheet_verdict sheet ≡ refuses r → RunInto (passage sheet (length buffer)) buffer buffer (Refused r 0)
+  pub run_refused : {r : Refusal} → sheet_verdict sheet ≡ refuses r → RunInto (passage sheet (length buffer)) buffer buffer (refused_at r 0)
   run_refused {r} e = before_steps r (passage_refused sheet (length buffer) e)
 
-  pub run_too_few_places : sheet_verdict sheet ≡ passes → length buffer < places_needed sheet → RunInto (passage sheet (length buffer)) buffer buffer (Refused TooFewPlaces 0)
+  pub run_too_few_places : sheet_verdict sheet ≡ passes → length buffer < places_needed sheet → RunInto (passage sheet (length buffer)) buffer buffer (refused_at TooFewPlaces 0)
   run_too_few_places e few = before_steps TooFewPlaces (passage_too_few_places sheet (length buffer) e few)
 
   pub run_through : {outcome : Outcome} {after : List ℤ} → sheet_verdict sheet ≡ passes → places_needed sheet ≤ length buffer → RunInto (run sheet) buffer after outcome → RunInto (passage sheet (length buffer)) buffer after outcome

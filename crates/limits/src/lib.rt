@@ -13,8 +13,8 @@ fn from_to(low: u32, high: u32) -> Limits
     ensures { result ≡ (from low to high) }
 {
     Limits {
-        low: low as i64,
-        high: high as i64,
+        low: i64::from(low),
+        high: i64::from(high),
     }
 }
 
@@ -42,7 +42,7 @@ const STEP: Limits = Limits {
 pub fn step_within(step: i64) -> bool
     ensures { result ≡ model.step_within step }
 {
-    natural_within(STEP, rounding::magnitude(step))
+    natural_within(STEP, step.unsigned_abs())
 }
 
 // tail: 2..16777216.
@@ -75,7 +75,8 @@ pub const TERMS: Limits = Limits {
     high: MOST_TERMS as i64,
 };
 
-// `to` names one of the n quantities.
+// `to` names one of the n quantities. Stays, as the limits of `steps` and `first` do: each is a line of document 01 and a definition of
+// its own.
 #[tactic(auto, unfolding(model::specs::Sheet::to_limits))]
 pub fn to_limits(n: u32) -> Limits
     ensures { result ≡ model.to_limits n }
@@ -113,18 +114,15 @@ pub fn second_limits(n: u32, first: usize) -> Limits
 pub fn within(limits: Limits, z: i64) -> bool
     ensures { result ≡ model.within limits z }
 {
-    let low = limits.low;
-    let high = limits.high;
-    low <= z && z <= high
+    limits.low <= z && z <= limits.high
 }
 
 // The same of a natural number, which may be too large for an i64: it is then above every limit.
 pub fn natural_within(limits: Limits, m: u64) -> bool
     ensures { result ≡ model.within limits (pos m) }
 {
-    if m <= i64::MAX as u64 {
-        within(limits, m as i64)
-    } else {
-        false
+    match i64::try_from(m) {
+        Ok(z) => within(limits, z),
+        Err(_) => false,
     }
 }

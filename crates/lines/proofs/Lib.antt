@@ -1,3 +1,6 @@
-mod AnswerNumbers
-pub mod Spellings
-pub mod FieldsRead
+pub mod AnswerNumbers
+pub mod Digits
+pub mod Ends
+pub mod Keys
+pub mod Readers
+pub mod Yielded

@@ -1,14 +1,12 @@
 -- Document 01, 'A sheet and its answer': the answer's text, from bytes to bytes.
-use Rattle.std.specs.Prelude.{ℕ, zero, suc, ◌+◌, ◌/◌, ◌%◌, true, false, List, [], ◌∷◌, ◌++◌, ltb, ℤ, pos, negsuc}
+use Rattle.std.specs.Prelude.{ℕ, zero, suc, ◌+◌, ◌/◌, ◌%◌, true, false, List, [], ◌∷◌, ◌++◌, ltb, ℤ, pos, negsuc, Ok, Err}
 use Prim.Native.Char.{code}
 use Prim.Native.String.{String}
 use Rattle.ranges.specs.Range.{bytes}
-use Rattle.model.specs.Sheet.{result, refused_step}
+use Rattle.model.specs.Sheet.{Outcome, result, refused_step}
 use Rattle.model.specs.Reading.{read_sheet}
 use Rattle.model.specs.Step.{Ball, Span, Row}
 use Rattle.model.specs.Passage.{Run, refused, run}
-use Rattle.model.specs.declared.Outcome.{Outcome}
-use Rattle.model.specs.declared.Outcome.TheVariants.{Accepted, Refused}
 
 -- a digit's byte
 unfoldable pub digit : ℕ → ℕ
@@ -58,7 +56,7 @@ run_text run = rows_text 1 run.rows ++ outcome_text run.outcome
 unfoldable pub run_of : List ℕ → Run
 run_of text =
     let read = read_sheet text in
-    elim read.outcome [ Accepted ↦ run read.sheet | Refused r step ↦ refused r step ]
+    elim read.outcome [ Ok done ↦ run read.sheet | Err stop ↦ refused stop.refusal stop.step ]
 
 -- what the planner prints for a sheet
 unfoldable pub answer : List ℕ → List ℕ

@@ -1,7 +1,7 @@
 -- Document 01, questions 3 to 6: a passage given as numbers, its rows and its refusal.
-use Rattle.std.specs.Prelude.{ℕ, zero, suc, ◌-◌, ◌*◌, Bool, true, false, List, [], ◌∷◌, leb, ℤ, length, get_or}
+use Rattle.std.specs.Prelude.{ℕ, zero, suc, ◌-◌, ◌*◌, Bool, true, false, List, [], ◌∷◌, leb, ℤ, length, get_or, Ok, Err}
 use Rattle.ranges.specs.Range.{every}
-use Rattle.model.specs.Sheet.{most, sheet_verdict, passes, refuses, terms_of, starts_of}
+use Rattle.model.specs.Sheet.{most, Outcome, not_refused, refused_at, sheet_verdict, passes, refuses, terms_of, starts_of}
 use Rattle.model.specs.LikeTerms.{gathered}
 use Rattle.model.specs.Step.{Ball, no_ball, reach, greatest, ratio, Row, step_row}
 use Rattle.model.specs.Rows.{width}
@@ -9,8 +9,6 @@ use Rattle.model.specs.declared.Term.{Term}
 use Rattle.model.specs.declared.Sheet.{Sheet}
 use Rattle.model.specs.declared.Refusal.{Refusal}
 use Rattle.model.specs.declared.Refusal.TheVariants.{TooFewPlaces, TooLarge, StepTooLong, Intolerable}
-use Rattle.model.specs.declared.Outcome.{Outcome}
-use Rattle.model.specs.declared.Outcome.TheVariants.{Accepted, Refused}
 
 -- ---- one step, with its questions
 
@@ -59,7 +57,7 @@ pub record Run : Type 0 where
 
 -- no row, and a refusal at this step
 unfoldable pub refused : Refusal → ℕ → Run
-refused r step = record { rows = []; outcome = Refused r step }
+refused r step = record { rows = []; outcome = refused_at r step }
 
 -- step number `step` came to this; the passage goes on from its row
 unfoldable pub go_on : Advance → ℕ → (Row → Run) → Run
@@ -69,7 +67,7 @@ go_on (stops r) step rest = refused r step
 module _ (terms : List Term) (H : ℤ) (limit tol : ℕ) where
   -- so many steps, the first of them with this number, each from the values and radii that the last one left
   unfoldable pub follow : ℕ → ℕ → List Ball → Run
-  follow zero step balls = record { rows = []; outcome = Accepted }
+  follow zero step balls = record { rows = []; outcome = not_refused }
   follow (suc left) step balls = go_on (advance terms H limit tol balls) step (λ row. follow left (suc step) row.balls)
 
 -- ---- a passage given as numbers
@@ -100,5 +98,5 @@ step_of sheet balls =
 
 -- how many rows are written: all in an accepted passage, the earlier ones where a step is refused, none before step 1 (0 - 1 is 0)
 unfoldable pub rows_written : Sheet → Outcome → ℕ
-rows_written sheet Accepted = sheet.head.steps
-rows_written sheet (Refused r step) = step - 1
+rows_written sheet (Ok done) = sheet.head.steps
+rows_written sheet (Err refused) = refused.step - 1

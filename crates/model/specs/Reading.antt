@@ -1,20 +1,16 @@
 -- Document 01, 'The sheet' and questions 1 and 2: from bytes to a sheet, line by line, the first fault deciding.
-use Rattle.std.specs.Prelude.{ℕ, zero, suc, ◌+◌, ◌-◌, ◌*◌, Bool, true, false, ◌&&◌, List, [], ◌∷◌, ◌++◌, leb, eqb, ℤ, pos, negsuc, nat_abs, length}
+use Rattle.std.specs.Prelude.{ℕ, zero, suc, ◌+◌, ◌-◌, ◌*◌, Bool, true, false, ◌&&◌, List, [], ◌∷◌, ◌++◌, leb, eqb, ℤ, pos, negsuc, nat_abs, length, Option, Some, None}
 use Prim.Native.Char.{code}
 use Prim.Native.String.{String}
-use Rattle.std.proofs.Math.Option.{Option, some, none}
 use Rattle.ranges.specs.Range.{bytes}
-use Rattle.model.specs.Sheet.{most_bytes, most_digits, most_steps, number, Limits, within, step_within, quantities_held, terms_held, no_sheet, n_limits, steps_limits, tail_limits, tol_limits, start_limits, radius_limits, terms_limits, to_limits, coef_limits, first_limits, second_limits}
+use Rattle.model.specs.Sheet.{most_bytes, most_digits, most_steps, number, not_refused, refused_at, Limits, within, step_within, quantities_held, terms_held, no_sheet, n_limits, steps_limits, tail_limits, tol_limits, start_limits, radius_limits, terms_limits, to_limits, coef_limits, first_limits, second_limits}
 use Rattle.model.specs.declared.Head.{Head}
-use Rattle.model.specs.declared.Start.{Start}
-use Rattle.model.specs.declared.Start.TheVariants.{Reading}
 use Rattle.model.specs.declared.Quantity.{Quantity}
 use Rattle.model.specs.declared.Term.{Term}
 use Rattle.model.specs.declared.Terms.{Terms}
 use Rattle.model.specs.declared.Sheet.{Sheet}
 use Rattle.model.specs.declared.Refusal.{Refusal}
 use Rattle.model.specs.declared.Refusal.TheVariants.{Oversized, Misspelt, OutOfRange, NoReading}
-use Rattle.model.specs.declared.Outcome.TheVariants.{Accepted, Refused}
 use Rattle.model.specs.declared.ReadSheet.{ReadSheet}
 
 -- ---- a number, as it is spelled
@@ -57,9 +53,9 @@ signed (b ∷ rest) = elim (eqb b (code "-")) [ true ↦ negated (natural rest) 
 
 -- the bytes after a text that stands at the front
 unfoldable pub after : List ℕ → List ℕ → Option (List ℕ)
-after [] rest = some rest
-after (k ∷ key) [] = none
-after (k ∷ key) (b ∷ rest) = elim (eqb k b) [ true ↦ after key rest | false ↦ none ]
+after [] rest = Some rest
+after (k ∷ key) [] = None
+after (k ∷ key) (b ∷ rest) = elim (eqb k b) [ true ↦ after key rest | false ↦ None ]
 
 -- a number that was spelled, and the bytes after the line feed that ends its line
 unfoldable pub ended : Spelled → Spelled
@@ -69,7 +65,7 @@ ended wrong = wrong
 
 -- the key, `=`, a number so spelled, and a line feed
 unfoldable pub line : String → (List ℕ → Spelled) → List ℕ → Spelled
-line key spelling text = elim (after (bytes key ++ bytes "=") text) [ some rest ↦ ended (spelling rest) | none ↦ wrong ]
+line key spelling text = elim (after (bytes key ++ bytes "=") text) [ Some rest ↦ ended (spelling rest) | None ↦ wrong ]
 
 -- ---- a sheet
 
@@ -134,13 +130,13 @@ head high = do
   return (record { n = n; steps = steps; step = H; tail = tail; tol = tol })
 
 -- `start` alone may read `none`: no reading
-unfoldable pub start : Parser Start
+unfoldable pub start : Parser (Option ℤ)
 start text =
     elim (after (bytes "start=none\n") text) [
-      | some rest ↦ fault NoReading
-      | none ↦ (do
+      | Some rest ↦ fault NoReading
+      | None ↦ (do
         z ← signed_field "start" start_limits
-        return (Reading z)) text
+        return (Some z)) text
     ]
 
 -- a start and its radius
@@ -192,8 +188,8 @@ sheet high = do
 
 -- what reading gives: the sheet, or the refusal and the sheet of zeros
 unfoldable pub accepted : Parsed Sheet → ReadSheet
-accepted (parsed x rest) = record { outcome = Accepted; sheet = x }
-accepted (fault r) = record { outcome = Refused r 0; sheet = no_sheet }
+accepted (parsed x rest) = record { outcome = not_refused; sheet = x }
+accepted (fault r) = record { outcome = refused_at r 0; sheet = no_sheet }
 
 -- the reading of a sheet's bytes, with at most so many steps (a reader of stored sheets may take more): question 1, and then its lines
 unfoldable pub read_sheet_to : ℕ → List ℕ → ReadSheet

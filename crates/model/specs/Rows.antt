@@ -1,52 +1,32 @@
--- Rows as the code holds them: one row's numbers in arrays, and rows one after another in a lent buffer.
+-- Rows as the code holds them: one row's balls and spans in arrays, and rows one after another in a lent buffer.
 use Rattle.std.specs.Prelude.{ℕ, ◌+◌, ◌*◌, ℤ, pos, nat_abs, length, get_or, drop}
 use mathlib.Core.List.{List, [], ◌∷◌, ◌++◌, map, flatten}
 use Rattle.ranges.specs.Range.{tabulate}
 use Rattle.model.specs.Sheet.{most_quantities, padded}
-use Rattle.model.specs.Step.{Row}
+use Rattle.model.specs.Step.{no_ball, no_span, Row}
 use Rattle.model.specs.declared.Ball.{Ball}
-use Rattle.model.specs.declared.Balls.{Balls}
 use Rattle.model.specs.declared.Span.{Span}
-use Rattle.model.specs.declared.Spans.{Spans}
 
--- ---- the values and the radii in two arrays
+-- ---- balls and spans in their arrays
 
--- the value and the radius of quantity i, in arrays of each
-unfoldable pub ball_in : List ℤ → List ℕ → ℕ → Ball
-ball_in values radii i = record { value = get_or values i (pos 0); radius = get_or radii i 0 }
+-- the first n balls
+unfoldable pub balls_of : ℕ → List Ball → List Ball
+balls_of n balls = tabulate n (λ i. get_or balls i no_ball)
 
--- the first n of them
-unfoldable pub balls_in : ℕ → List ℤ → List ℕ → List Ball
-balls_in n values radii = tabulate n (ball_in values radii)
+-- balls in their array, with 0 past them
+unfoldable pub laid_out : List Ball → List Ball
+laid_out = padded most_quantities no_ball
 
--- the same of a record that holds both arrays
-abbrev pub balls_of : ℕ → Balls → List Ball
-balls_of n balls = balls_in n balls.values balls.radii
+-- the first n spans
+unfoldable pub spans_of : ℕ → List Span → List Span
+spans_of n spans = tabulate n (λ i. get_or spans i no_span)
 
--- balls in two arrays, with 0 past them
-unfoldable pub laid_out : List Ball → Balls
-laid_out balls =
-    record {
-      values = padded most_quantities (pos 0) (map (λ ball. ball.value) balls);
-      radii = padded most_quantities 0 (map (λ ball. ball.radius) balls);
-    }
-
--- ---- the lows and the highs in two arrays
-
--- the first n of them
-unfoldable pub spans_of : ℕ → Spans → List Span
-spans_of n spans = tabulate n (λ i. record { low = get_or spans.lows i (pos 0); high = get_or spans.highs i (pos 0) })
-
--- spans in two arrays, with 0 past them
-unfoldable pub spans_laid_out : List Span → Spans
-spans_laid_out spans =
-    record {
-      lows = padded most_quantities (pos 0) (map (λ span. span.low) spans);
-      highs = padded most_quantities (pos 0) (map (λ span. span.high) spans);
-    }
+-- spans in their array, with 0 past them
+unfoldable pub spans_laid_out : List Span → List Span
+spans_laid_out = padded most_quantities no_span
 
 -- none
-unfoldable pub no_spans : Spans
+unfoldable pub no_spans : List Span
 no_spans = spans_laid_out []
 
 -- ---- a row's places: the degree, and then the parts, each of n places

@@ -1,20 +1,17 @@
 -- Document 01, 'The sheet' and 'Questions in order': the limits of each field, and a sheet given as numbers.
-use Rattle.std.specs.Prelude.{ℕ, zero, suc, ◌-◌, Bool, true, false, ◌&&◌, List, [], ◌++◌, ◌≡◌, ℤ, pos, neg_ℤ, nat_abs, length, get_or, replicate}
+use Rattle.std.specs.Prelude.{ℕ, zero, suc, ◌-◌, Bool, true, false, ◌&&◌, List, [], ◌++◌, ◌≡◌, ℤ, pos, neg_ℤ, nat_abs, length, get_or, replicate, Option, Some, None, Result, Ok, Err}
 use Rattle.std.specs.Int.Signed.{le_z}
 use Rattle.ranges.specs.Range.{tabulate}
 pub use Rattle.model.specs.declared.Limits.{Limits}
 use Rattle.model.specs.declared.Head.{Head}
 use Rattle.model.specs.declared.Ball.{Ball}
-use Rattle.model.specs.declared.Start.{Start}
-use Rattle.model.specs.declared.Start.TheVariants.{Reading, Missing}
 use Rattle.model.specs.declared.Quantity.{Quantity}
 use Rattle.model.specs.declared.Term.{Term}
 use Rattle.model.specs.declared.Terms.{Terms}
 use Rattle.model.specs.declared.Sheet.{Sheet}
 use Rattle.model.specs.declared.Refusal.{Refusal}
 use Rattle.model.specs.declared.Refusal.TheVariants.{Oversized, Misspelt, OutOfRange, NoReading, TooFewPlaces, TooLarge, StepTooLong, Intolerable, QueryOutOfRange, RowOutOfRange}
-use Rattle.model.specs.declared.Outcome.{Outcome}
-use Rattle.model.specs.declared.Outcome.TheVariants.{Accepted, Refused}
+use Rattle.model.specs.declared.Refused.{Refused}
 
 -- ---- bounds
 
@@ -69,15 +66,27 @@ number Intolerable = 8
 number QueryOutOfRange = 9
 number RowOutOfRange = 10
 
+-- what comes of a sheet or a passage: nothing is refused, or this is, at this step, or at 0 before step 1
+abbrev pub Outcome : Type 0
+Outcome = Result (Unit {0}) Refused
+
+-- nothing is refused
+abbrev pub not_refused : Outcome
+not_refused = Ok tt
+
+-- a refusal at a step
+abbrev pub refused_at : Refusal → ℕ → Outcome
+refused_at r step = Err (record { refusal = r; step = step })
+
 -- what is printed as `result`
 unfoldable pub result : Outcome → ℕ
-result Accepted = 0
-result (Refused r step) = number r
+result (Ok done) = 0
+result (Err refused) = number refused.refusal
 
 -- what is printed as `at`
 unfoldable pub refused_step : Outcome → ℕ
-refused_step Accepted = 0
-refused_step (Refused r step) = step
+refused_step (Ok done) = 0
+refused_step (Err refused) = refused.step
 
 -- an outcome gives this number and this step
 pub record Gives (outcome : Outcome) (number step : ℕ) : Type 0 where
@@ -96,8 +105,8 @@ verdict_number (refuses r) = number r
 
 -- as an outcome, before step 1
 unfoldable pub verdict_outcome : Verdict → Outcome
-verdict_outcome passes = Accepted
-verdict_outcome (refuses r) = Refused r 0
+verdict_outcome passes = not_refused
+verdict_outcome (refuses r) = refused_at r 0
 
 -- a question, and what it refuses with where the answer is no
 unfoldable pub ask : Bool → Refusal → Verdict
@@ -204,9 +213,9 @@ head_verdict high head =
     in_range tol_limits (pos head.tol)
 
 -- a start: refusal 4 where there is no reading
-unfoldable pub start_verdict : Start → Verdict
-start_verdict (Reading z) = in_range start_limits z
-start_verdict Missing = refuses NoReading
+unfoldable pub start_verdict : Option ℤ → Verdict
+start_verdict (Some z) = in_range start_limits z
+start_verdict None = refuses NoReading
 
 -- a start, and then its radius
 unfoldable pub quantity_verdict : Quantity → Verdict
@@ -222,7 +231,7 @@ term_verdict n term =
 
 -- what a list of quantities reads as past its end; the counts of a sheet that is in range do not lead there
 unfoldable pub no_quantity : Quantity
-no_quantity = record { start = Reading (pos 0); radius = 0 }
+no_quantity = record { start = Some (pos 0); radius = 0 }
 
 -- the same of terms
 unfoldable pub no_term : Term
@@ -261,9 +270,9 @@ terms_of sheet = listed sheet.terms
 
 -- a start is a number here: refusal 4 comes before any step, so that the second case does not occur (`start_is_read` of
 -- crates/laws/proofs/Text/Readings.antt)
-unfoldable pub start_value : Start → ℤ
-start_value (Reading z) = z
-start_value Missing = pos 0
+unfoldable pub start_value : Option ℤ → ℤ
+start_value (Some z) = z
+start_value None = pos 0
 
 -- the value and the radius that a quantity starts from
 unfoldable pub start_ball : Quantity → Ball

@@ -2,8 +2,9 @@
 // these what document 01 means; the code that is proved against it is in the crates above.
 #![tactic(auto)]
 
-ghost use Rattle.std.specs.Prelude.{◌≡◌, pos, neg_ℤ};
+ghost use Rattle.std.specs.Prelude.{◌≡◌, ◌≤◌, pos, neg_ℤ};
 ghost use Rattle.model.specs.Sheet as sheet;
+ghost use Rattle.model.specs.Sheet.{most_terms, listed};
 
 // s: so many units make one whole.
 pub const SCALE: u64 = 16777216;
@@ -17,7 +18,8 @@ pub const MOST_BYTES: usize = 4096;
 // The most digits of one of its numbers.
 pub const MOST_DIGITS: u64 = 9;
 
-// Its most quantities.
+// Its most quantities. Stays: that n is at most this is asked where an array is filled or indexed by n, or n is cast to a u32; a
+// type for n would be made from the sheet's number at each call.
 pub const MOST_QUANTITIES: usize = 8;
 
 // Its most steps.
@@ -55,22 +57,15 @@ pub struct Head {
     pub tol: u64,
 }
 
-// A start in units, or no reading.
-#[derive(Clone, Copy)]
-pub enum Start {
-    Reading(i64),
-    Missing,
-}
-
-// A quantity's start and the radius of that start.
+// A quantity's start, in units, or no reading; and the radius of that start.
 #[derive(Clone, Copy)]
 pub struct Quantity {
-    pub start: Start,
+    pub start: Option<i64>,
     pub radius: u64,
 }
 
 // A term adds coef/s times its factors to the rate of the quantity `to`. Quantities are numbered from 1, and a factor 0
-// is no factor.
+// is no factor. Stays: the numbers are a sheet's own, and the definitions read a term by them (`factors`, `factor` of Step.antt).
 #[derive(Clone, Copy)]
 pub struct Term {
     pub to: usize,
@@ -79,14 +74,15 @@ pub struct Term {
     pub second: usize,
 }
 
-// The first `count` terms of the list. What stands past them means nothing.
+// The first `count` terms of the list. What stands past them means nothing. Stays: nothing is allocated, and a sheet given as
+// numbers may have a count past the list's end, which `verdict` (its clause `whole`) refuses by 3.
 #[derive(Clone, Copy)]
 pub struct Terms {
     pub count: usize,
     pub list: [Term; MOST_TERMS],
 }
 
-// A sheet. What stands in `quantities` past the head's n means nothing.
+// A sheet. What stands in `quantities` past the head's n means nothing. Stays: as for the count of terms.
 #[derive(Clone, Copy)]
 pub struct Sheet {
     pub head: Head,
@@ -101,12 +97,8 @@ pub struct Ball {
     pub radius: u64,
 }
 
-// The values and radii of up to 8 quantities.
-#[derive(Clone, Copy)]
-pub struct Balls {
-    pub values: [i64; MOST_QUANTITIES],
-    pub radii: [u64; MOST_QUANTITIES],
-}
+// The values and radii of up to 8 quantities, with 0 past them.
+pub type Balls = [Ball; MOST_QUANTITIES];
 
 // Two values in units, between which a quantity lies.
 #[derive(Clone, Copy)]
@@ -115,36 +107,45 @@ pub struct Span {
     pub high: i64,
 }
 
-// The lows and highs of up to 8 quantities.
-#[derive(Clone, Copy)]
-pub struct Spans {
-    pub lows: [i64; MOST_QUANTITIES],
-    pub highs: [i64; MOST_QUANTITIES],
-}
+// The lows and highs of up to 8 quantities, with 0 past them.
+pub type Spans = [Span; MOST_QUANTITIES];
 
-// Every refusal of documents 01 and 02, in the order of the numbers.
-#[derive(Clone, Copy)]
+// Every refusal, with its number in documents 01 and 02.
+#[derive(Clone, Copy, Debug, PartialEq, Eq)]
 pub enum Refusal {
-    Oversized,
-    Misspelt,
-    OutOfRange,
-    NoReading,
-    TooFewPlaces,
-    TooLarge,
-    StepTooLong,
-    Intolerable,
-    QueryOutOfRange,
-    RowOutOfRange,
+    Oversized = 1,
+    Misspelt = 2,
+    OutOfRange = 3,
+    NoReading = 4,
+    TooFewPlaces = 5,
+    TooLarge = 6,
+    StepTooLong = 7,
+    Intolerable = 8,
+    QueryOutOfRange = 9,
+    RowOutOfRange = 10,
 }
 
-// What comes of a sheet or a passage. A refusal has the number of the refused step, or 0 before step 1.
-#[derive(Clone, Copy)]
-pub enum Outcome {
-    Accepted,
-    Refused(Refusal, usize),
+// A refusal, and the number of the refused step, or 0 before step 1. Stays: the number is document 01's `at`, which is printed and told
+// to C.
+#[derive(Clone, Copy, Debug, PartialEq, Eq)]
+pub struct Refused {
+    pub refusal: Refusal,
+    pub step: usize,
 }
 
-// What reading a sheet gives: where it is refused, the sheet of zeros.
+// A refusal before step 1.
+impl From<Refusal> for Refused {
+    ghost from_gives = { λ refusal refused. refused ≡ record { refusal = refusal; step = 0 } };
+
+    fn from(refusal: Refusal) -> Refused {
+        Refused { refusal, step: 0 }
+    }
+}
+
+// What comes of a sheet or a passage.
+pub type Outcome = Result<(), Refused>;
+
+// What reading a sheet gives: where it is refused, the sheet of zeros. Stays: the clause `whole` of `sheet::read` holds it.
 #[derive(Clone, Copy)]
 pub struct ReadSheet {
     pub outcome: Outcome,
@@ -152,15 +153,33 @@ pub struct ReadSheet {
 }
 
 // What stands past the terms that are counted.
-#[tactic(auto, unfolding(crate::specs::Sheet::no_term))]
-pub fn no_term() -> Term
-    ensures { result ≡ sheet.no_term }
-{
-    Term {
-        to: 0,
-        coef: 0,
-        first: 0,
-        second: 0,
+pub const NO_TERM: Term = Term {
+    to: 0,
+    coef: 0,
+    first: 0,
+    second: 0,
+};
+
+// What stands past the last quantity.
+pub const NO_QUANTITY: Quantity = Quantity {
+    start: Some(0),
+    radius: 0,
+};
+
+// What stands past the last quantity's ball, and past its span.
+pub const NO_BALL: Ball = Ball {
+    value: 0,
+    radius: 0,
+};
+
+pub const NO_SPAN: Span = Span { low: 0, high: 0 };
+
+impl Terms {
+    // The terms that are counted; where more are counted than the list has, the whole list.
+    pub fn listed(&self) -> &[Term]
+        ensures { self.now.count ≤ most_terms → result.now ≡ listed self.now }
+    {
+        &self.list[..self.count.min(MOST_TERMS)]
     }
 }
 
@@ -169,18 +188,7 @@ pub fn no_term() -> Term
 pub fn number(refusal: Refusal) -> u64
     ensures { result ≡ sheet.number refusal }
 {
-    match refusal {
-        Refusal::Oversized => 1,
-        Refusal::Misspelt => 2,
-        Refusal::OutOfRange => 3,
-        Refusal::NoReading => 4,
-        Refusal::TooFewPlaces => 5,
-        Refusal::TooLarge => 6,
-        Refusal::StepTooLong => 7,
-        Refusal::Intolerable => 8,
-        Refusal::QueryOutOfRange => 9,
-        Refusal::RowOutOfRange => 10,
-    }
+    refusal as u64
 }
 
 // The same with a minus, as an answer that is one number has it for C.
@@ -196,8 +204,8 @@ pub fn result(outcome: Outcome) -> u64
     ensures { result ≡ sheet.result outcome }
 {
     match outcome {
-        Outcome::Accepted => 0,
-        Outcome::Refused(refusal, _) => number(refusal),
+        Ok(()) => 0,
+        Err(refused) => number(refused.refusal),
     }
 }
 
@@ -207,7 +215,7 @@ pub fn refused_step(outcome: Outcome) -> u64
     ensures { result ≡ sheet.refused_step outcome }
 {
     match outcome {
-        Outcome::Accepted => 0,
-        Outcome::Refused(_, step) => step as u64,
+        Ok(()) => 0,
+        Err(refused) => refused.step as u64,
     }
 }

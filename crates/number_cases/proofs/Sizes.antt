@@ -2,7 +2,7 @@
 use Prim.Native.Nat.{ℕ, zero, suc, ◌+◌, ◌-◌, ◌*◌, ◌^◌, ◌≤◌, ◌<◌}
 use mathlib.Core.Bool.{Bool, true, false}
 use mathlib.Core.List.{List, [], ◌∷◌, ◌++◌}
-use mathlib.Core.Option.{Option, some, none}
+use Rattle.std.specs.Prelude.{Option, Some, None}
 use mathlib.Core.Path.{◌≡◌, refl, subst}
 use native.Mathlib.Nat.{pow-suc, pow-le-pow_right}
 use native.Mathlib.Omega.{arith}
@@ -13,23 +13,18 @@ use Rattle.ranges.specs.Range.{bytes}
 use Rattle.model.specs.Sheet.{most_digits}
 use Rattle.model.specs.Answer.{decimal}
 use Rattle.model.specs.Reading.{Spelled, spelled, wrong, is_digit, digits, natural, negated, signed, after, ended}
-use Rattle.printing.specs.Pieces.{Put, Room, line_of}
+use Rattle.printing.specs.Pieces.{line_of}
 use Rattle.laws.proofs.Text.DecimalText.{length_signed}
-use Rattle.printing.proofs.Pieces.{put_keeps_length}
-use Rattle.lines.specs.Places.{spelling, line_after}
+use Rattle.lines.specs.Lines.{spelling, line_after}
 use Rattle.laws.proofs.Text.DecimalText.{digit_range}
 
 -- ---- a line
 
 -- a key of seven bytes, a minus, ten digits and a line feed
-pub room_for_line : {text : List ℕ} (key : List ℕ) (z : ℤ) → 19 ≤ length text → length key ≤ 7 → nat_abs z < 2 ^ 32 → Room text 0 (line_of key z)
+pub length_line : (key : List ℕ) (z : ℤ) → length key ≤ 7 → nat_abs z < 2 ^ 32 → length (line_of key z) ≤ 19
 unfolding bytes
-room_for_line key z room short small =
-    record { fits = omega (arith, length-append (key ++ decimal z) (bytes "\n"), length-append key (decimal z), length_signed 10 z (omega arith) (omega arith)) }
-
--- what is put where there is room ends inside
-pub put_inside : {a b x : List ℕ} {i j : ℕ} → Room a i x → Put a i x j b → j ≤ length b
-put_inside room p = omega (arith, room.fits, p.counted, put_keeps_length p)
+length_line key z short small =
+    omega (arith, length-append (key ++ decimal z) (bytes "\n"), length-append key (decimal z), length_signed 10 z (omega arith) (omega arith))
 
 -- ---- a number that is spelled has at most nine digits
 
@@ -92,9 +87,9 @@ line_short : (key l : List ℕ) → Short (line_after key true l)
 unfolding line_after spelling
 line_short key l = go (after key l)
   where
-    go : (found : Option (List ℕ)) → Short (elim found [ some rest ↦ ended (signed rest) | none ↦ wrong ])
-    go (some rest) = ended_short (signed rest) (signed_short rest)
-    go none = tt
+    go : (found : Option (List ℕ)) → Short (elim found [ Some rest ↦ ended (signed rest) | None ↦ wrong ])
+    go (Some rest) = ended_short (signed rest) (signed_short rest)
+    go None = tt
 
 -- so what is read from a line can be printed
 pub read_small : (key l : List ℕ) {z : ℤ} {rest : List ℕ} → line_after key true l ≡ spelled z rest → nat_abs z < 2 ^ 32

@@ -2,110 +2,95 @@
 #![tactic(auto)]
 
 ghost use Rattle.std.specs.Prelude.{◌≡◌, ◌≤◌, length};
-ghost use Rattle.model.specs.Sheet.{result as printed_result, refused_step, Gives, most_quantities, listed, start_value, starts_of};
+ghost use Rattle.model.specs.Sheet.{result as printed_result, refused_step, Gives, most_quantities, listed, start_ball, starts_of};
 ghost use Rattle.model.specs.Rows.{balls_of, laid_out, written};
 ghost use Rattle.model.specs.Passage as passage;
 ghost use Rattle.enclosure.specs.Trust.{Leaves};
 ghost use Rattle.passage.specs.CanRun.{CanRun};
 
-use model::{Balls, Head, MOST_QUANTITIES, Outcome, Refusal, Sheet, Start, Terms};
-use products::PLACES;
+use model::{
+    Ball, Balls, Head, MOST_QUANTITIES, NO_BALL, Outcome, Quantity, Refusal, Refused, Sheet, Terms,
+};
+use products::Table;
 use ratio::sums_of;
 use rows::{put_row, width};
-use taylor::{Advance, take_step};
+use taylor::take_step;
 use terms::gather;
 use verdict::verdict;
 
-// A start's number of units. Where there is no reading the sheet is refused before this is asked.
-#[tactic(auto, unfolding(model::specs::Sheet::start_value))]
-fn start_value(start: Start) -> i64
-    ensures { result ≡ start_value start }
+// The ball that a quantity starts from. Where there is no reading the sheet is refused before this is asked.
+#[tactic(auto, unfolding(model::specs::Sheet::start_ball, model::specs::Sheet::start_value))]
+fn start_ball(quantity: Quantity) -> Ball
+    ensures { result ≡ start_ball quantity }
 {
-    match start {
-        Start::Reading(value) => value,
-        Start::Missing => 0,
+    Ball {
+        value: quantity.start.unwrap_or(0),
+        radius: quantity.radius,
     }
 }
 
-// The values and radii that the first step starts from, with 0 past n.
-fn starts_of(sheet: Sheet) -> Balls
-    requires { sheet.head.n ≤ most_quantities }
-    ensures { result ≡ laid_out (starts_of sheet) }
+// The values and radii that the first step starts from, with 0 past n. Stays beside the other functions that fill an array's front: a
+// loop of one line, where one over all would take a closure with its contract.
+fn starts_of(sheet: &Sheet) -> Balls
+    requires { sheet.now.head.n ≤ most_quantities }
+    ensures { result ≡ laid_out (starts_of sheet.now) }
 {
-    let mut values = [0i64; MOST_QUANTITIES];
-    let mut radii = [0u64; MOST_QUANTITIES];
-    let n = sheet.head.n;
-    let mut i = 0;
-    while i < n {
-        let quantity = sheet.quantities[i];
-        let start = quantity.start;
-        values[i] = start_value(start);
-        radii[i] = quantity.radius;
-        i += 1;
+    let mut balls = [NO_BALL; MOST_QUANTITIES];
+    for i in 0..sheet.head.n {
+        balls[i] = start_ball(sheet.quantities[i]);
     }
-    Balls { values, radii }
+    balls
 }
 
 // The steps of a passage from `start`, each row into the buffer after the last. Z0, Z1 and Z2 of the terms, and the table
 // of coefficients that each step works in, are made once for all of them.
-fn run_steps(head: Head, terms: Terms, start: Balls, rows: &mut [i64]) -> Outcome
-    requires { CanRun head (listed terms) rows.old }
-    ensures ended { result ≡ (passage.follow (listed terms) head.step head.tail head.tol head.steps 1 (balls_of head.n start)).outcome }
-    ensures put { rows.new ≡ written (passage.follow (listed terms) head.step head.tail head.tol head.steps 1 (balls_of head.n start)).rows rows.old }
+fn run_steps(head: &Head, terms: &Terms, start: &Balls, rows: &mut [i64]) -> Outcome
+    requires { CanRun head.now (listed terms.now) rows.old }
+    ensures ended { result ≡ (passage.follow (listed terms.now) head.now.step head.now.tail head.now.tol head.now.steps 1 (balls_of head.now.n start.now)).outcome }
+    ensures put { rows.new ≡ written (passage.follow (listed terms.now) head.now.step head.now.tail head.now.tol head.now.steps 1 (balls_of head.now.n start.now)).rows rows.old }
 {
-    let n = head.n;
-    let steps = head.steps;
-    let sums = sums_of(n, terms);
-    let mut values = [0i64; PLACES];
-    let mut reaches = [0u64; PLACES];
-    let mut balls = start;
-    let mut done = 0;
-    while done < steps {
-        let stepped = take_step(head, terms, &sums, balls, &mut values, &mut reaches);
-        let advance = stepped.advance;
+    let terms = terms.listed();
+    let sums = sums_of(head.n, terms);
+    let mut table = Table::new();
+    let mut balls = *start;
+    for done in 0..head.steps {
+        let stepped = take_step(head, terms, &sums, &balls, &mut table);
         let numbers = stepped.numbers;
         balls = numbers.balls;
-        match advance {
-            Advance::Stops(refusal) => {
-                let number = done + 1;
-                return Outcome::Refused(refusal, number);
-            }
-            Advance::Moves(degree) => {
-                put_row(rows, n, done, degree, balls, numbers.spans);
+        match stepped.advance {
+            Ok(degree) => put_row(rows, head.n, done, degree, &balls, &numbers.spans),
+            Err(refusal) => {
+                let step = done + 1;
+                return Err(Refused { refusal, step });
             }
         }
-        done += 1;
     }
-    Outcome::Accepted
+    Ok(())
 }
 
 // Runs the passage of a sheet given as numbers, by its gathered terms. Refused by 3, 4 or 5, it leaves the buffer as it
 // is; refused at a step, it has written the rows before that step.
-pub fn run(sheet: Sheet, rows: &mut [i64]) -> Outcome
-    ensures ended { result ≡ (passage.passage sheet (length rows.old)).outcome }
-    ensures leaves { Leaves sheet (passage.passage sheet (length rows.old)) rows.old rows.new }
-    ensures numbered { Gives result (printed_result (passage.passage sheet (length rows.old)).outcome) (refused_step (passage.passage sheet (length rows.old)).outcome) }
+pub fn run(sheet: &Sheet, rows: &mut [i64]) -> Outcome
+    ensures ended { result ≡ (passage.passage sheet.now (length rows.old)).outcome }
+    ensures leaves { Leaves sheet.now (passage.passage sheet.now (length rows.old)) rows.old rows.new }
+    ensures numbered { Gives result (printed_result (passage.passage sheet.now (length rows.old)).outcome) (refused_step (passage.passage sheet.now (length rows.old)).outcome) }
 {
-    let refused = verdict(sheet);
-    if let Outcome::Refused(_, _) = refused {
-        return refused;
-    }
-    let head = sheet.head;
-    if rows.len() < head.steps * width(head.n) {
-        return Outcome::Refused(Refusal::TooFewPlaces, 0);
+    verdict(sheet)?;
+    if rows.len() < sheet.head.steps * width(sheet.head.n) {
+        return Err(Refusal::TooFewPlaces.into());
     }
     let start = starts_of(sheet);
-    let terms = gather(sheet.terms);
-    run_steps(head, terms, start, rows)
+    let terms = gather(&sheet.terms);
+    run_steps(&sheet.head, &terms, &start, rows)
 }
 
 // How many rows the passage of a sheet has written.
 #[tactic(auto, unfolding(model::specs::Passage::rows_written))]
-pub fn rows_written(sheet: Sheet, outcome: Outcome) -> usize
-    ensures { result ≡ passage.rows_written sheet outcome }
+pub fn rows_written(sheet: &Sheet, outcome: Outcome) -> usize
+    ensures { result ≡ passage.rows_written sheet.now outcome }
 {
     match outcome {
-        Outcome::Accepted => sheet.head.steps,
-        Outcome::Refused(_, step) => { if step == 0 { 0 } else { step - 1 } }
+        Ok(()) => sheet.head.steps,
+        Err(refused) => refused.step.saturating_sub(1),
     }
 }

@@ -1,4 +1,5 @@
 -- How long an answer can be, line by line.
+use Rattle.std.specs.Prelude.{Ok, Err}
 use Prim.Native.Nat.{ℕ, suc, ◌+◌, ◌*◌, ◌^◌, ◌≤◌, ◌<◌}
 use mathlib.Core.Path.{◌≡◌, refl, ap}
 use mathlib.Core.List.{List, [], ◌∷◌, ◌++◌, append-nil}
@@ -7,15 +8,13 @@ use native.Mathlib.Omega.{arith}
 use lib.IntN.{ℤ, pos, neg_ℤ, nat_abs}
 use lib.ListN.{length, get_or, length-append}
 use Rattle.ranges.specs.Range.{tabulate, bytes}
-use Rattle.model.specs.Sheet.{most, most_quantities, most_steps, number, result, refused_step}
+use Rattle.model.specs.Sheet.{Outcome, refused_at, most, most_quantities, most_steps, number, result, refused_step}
 use Rattle.model.specs.Step.{no_ball, no_span, most_degree, Row}
 use Rattle.model.specs.Passage.{Run}
 use Rattle.enclosure.specs.RowRange.{most_value, most_span, Printable}
 use Rattle.model.specs.Answer.{digit, decimal_by, decimal, printed, quantities_text, rows_text, outcome_text, run_text}
 use Rattle.model.specs.declared.Ball.{Ball}
 use Rattle.model.specs.declared.Span.{Span}
-use Rattle.model.specs.declared.Outcome.{Outcome}
-use Rattle.model.specs.declared.Outcome.TheVariants.{Accepted, Refused}
 use Rattle.model.specs.declared.Refusal.TheVariants.{RowOutOfRange}
 use Rattle.model.proofs.RefusalNumbers.{number_short}
 use Rattle.ranges.proofs.Ranges.{get_or_tabulate}
@@ -41,8 +40,8 @@ length_span low high h k =
 
 pub result_short : (outcome : Outcome) → result outcome < 10 ^ 2
 unfolding result
-result_short Accepted = omega arith
-result_short (Refused r step) = number_short r
+result_short (Ok done) = omega arith
+result_short (Err refused) = number_short refused.refusal
 
 pub length_outcome : (outcome : Outcome) → refused_step outcome ≤ suc most_steps → length (outcome_text outcome) ≤ most_outcome
 unfolding outcome_text bytes
@@ -72,10 +71,6 @@ length_rows n number (entry_first {x = row} w none) (entry_first range none) las
     omega (arith, w.balls, length_row value_digits number row (omega arith) (omega arith) range (λ i k. omega (arith, range.values i k)), ap (λ (m : ℕ). most_row value_digits m) w.balls)
 length_rows n number (entry_first {x = row} w (entry_first {x = next} {xs = rows} v wide)) (entry_first range ranges) (earlier p passed) h =
     omega (arith, ap length (rows_append number (row ∷ []) (next ∷ rows)), length-append (rows_text number (row ∷ [])) (rows_text (number + 1) (next ∷ rows)), length_row passed_digits number row (omega arith) (omega arith) range (λ i k. omega (arith, p i k)), ap (λ (m : ℕ). most_row passed_digits m) w.balls, length_rows n (number + 1) (entry_first v wide) ranges passed (omega arith), suc-mul (suc (length rows)) (most_row passed_digits n))
-
--- so many rows of n quantities, whichever is the last
-pub rows_brief : (n count : ℕ) → n ≤ most_quantities → count ≤ most_steps → count * most_row value_digits n ≤ most_steps * most_row value_digits most_quantities
-rows_brief n count h k = omega (arith, mul-le-mul_right (most_row value_digits n) k)
 
 -- ---- the whole answer
 
@@ -111,7 +106,7 @@ row_reached : length (rows_text most_steps (longest_row ∷ [])) ≡ most_row va
 unfolding longest_row longest_ball longest_span rows_text quantities_text printed bytes decimal decimal_by digit most tabulate
 row_reached = refl
 
-outcome_reached : length (outcome_text (Refused RowOutOfRange most_steps)) ≡ most_outcome
+outcome_reached : length (outcome_text (refused_at RowOutOfRange most_steps)) ≡ most_outcome
 unfolding outcome_text printed bytes decimal decimal_by digit number result refused_step
 outcome_reached = refl
 

@@ -1,11 +1,11 @@
--- A number's line: how long it is, and that the code, which hands over a number's bits, asks and puts what is the number's.
-use Prim.Native.Nat.{ℕ, suc, ◌^◌, ◌≤◌, ◌<◌}
+-- A number's line: how long it is, and that the code, which hands over a number's bits, adds the number's.
+use Prim.Native.Nat.{ℕ, suc, ◌+◌, ◌^◌, ◌≤◌, ◌<◌}
 use Prim.Native.String.{String}
-use mathlib.Core.Path.{◌≡◌, ap}
-use mathlib.Core.List.{List}
+use mathlib.Core.Path.{◌≡◌, sym, ap, ◌∙◌}
+use mathlib.Core.List.{List, [], ◌++◌, append-nil, append_assoc}
 use native.Mathlib.Omega.{arith}
 use lib.IntN.{ℤ, pos, nat_abs}
-use lib.ListN.{length}
+use lib.ListN.{length, length-append}
 use mir.Syntax.{w64}
 use mir.Val.{SFits, to_z, of_z}
 use mir.Facts.{to_z-of_z}
@@ -13,8 +13,7 @@ use Rattle.rounding.proofs.Machine.{sfits_abs}
 use Rattle.ranges.specs.Range.{bytes}
 use Rattle.model.specs.Answer.{decimal, printed}
 use Rattle.laws.proofs.Text.DecimalText.{length_below, length_signed, length_printed}
-use Rattle.printing.specs.Pieces.{Put, Room, most_line}
-use Rattle.printing.proofs.Pieces.{put_same}
+use Rattle.printing.specs.Pieces.{most_line}
 
 -- ---- its length
 
@@ -29,25 +28,47 @@ length_natural key k n l h = length_line key (pos n) k (length_below k n l h)
 pub length_whole : (key : String) (k : ℕ) (z : ℤ) → 0 < k → nat_abs z < 10 ^ k → length (printed key z) ≤ most_line (length (bytes key)) (suc k)
 length_whole key k z l h = length_line key z (suc k) (length_signed k z l h)
 
--- ---- a number's bits
+-- ---- a number's line behind others
 
--- what the line of a number asks, and what is put, are those of the number
-pub whole_asked : (key : String) {z : ℤ} {a : List ℕ} {i : ℕ} → SFits w64 z → nat_abs z < 2 ^ 32 → Room a i (printed key z) → (nat_abs (to_z w64 (of_z w64 z)) < 2 ^ 32) × Room a i (printed key (to_z w64 (of_z w64 z)))
-whole_asked key f h room = rw (to_z-of_z f) (h, room)
+-- the bits that the code hands over
+abbrev pub bits : ℤ → ℤ
+bits z = to_z w64 (of_z w64 z)
 
-pub whole_put : (key : String) {a b : List ℕ} {i j : ℕ} {z : ℤ} → SFits w64 z → Put a i (printed key (to_z w64 (of_z w64 z))) j b → Put a i (printed key z) j b
-whole_put key f p = put_same (ap (printed key) (to_z-of_z f)) p
+-- a number that is printed in no more than so many digits, its sign with them
+pub record Short (key : String) (digits : ℕ) (z : ℤ) : Type 0 where
+  pub fits : SFits w64 z
+  pub small : nat_abs z < 2 ^ 32
+  pub line : length (printed key z) ≤ most_line (length (bytes key)) digits
 
--- a natural number that is printed as a signed one: it fits, and the bits that the code hands over are its own
 pub natural_fits : {n : ℕ} → n < 2 ^ 32 → SFits w64 (pos n)
 natural_fits h = sfits_abs (omega arith)
 
-pub of_bits : {n : ℕ} → n < 2 ^ 32 → to_z w64 (of_z w64 (pos n)) ≡ pos n
-of_bits h = to_z-of_z (natural_fits h)
+pub short_natural : (key : String) (k : ℕ) {n : ℕ} → 0 < k → n < 10 ^ k → n < 2 ^ 32 → Short key k (pos n)
+short_natural key k {n} l h small = record { fits = natural_fits small; small = small; line = length_natural key k n l h }
 
--- so the same holds of its line
-pub line_asked_lem : (key : String) (n : ℕ) {a : List ℕ} {i : ℕ} → n < 2 ^ 32 → Room a i (printed key (pos n)) → (nat_abs (to_z w64 (of_z w64 (pos n))) < 2 ^ 32) × Room a i (printed key (to_z w64 (of_z w64 (pos n))))
-line_asked_lem key n h room = whole_asked key (natural_fits h) h room
+pub short_whole : (key : String) (k : ℕ) {z : ℤ} → 0 < k → nat_abs z < 10 ^ k → nat_abs z < 2 ^ 32 → Short key (suc k) z
+short_whole key k {z} l h small = record { fits = sfits_abs (omega arith); small = small; line = length_whole key k z l h }
 
-pub line_put : (key : String) {a b : List ℕ} {i j n : ℕ} → n < 2 ^ 32 → Put a i (printed key (to_z w64 (of_z w64 (pos n)))) j b → Put a i (printed key (pos n)) j b
-line_put key h p = whole_put key (natural_fits h) p
+-- text was added, of no more than so many bytes
+pub record Added (before text : List ℕ) (most : ℕ) (after : List ℕ) : Type 0 where
+  pub added : after ≡ before ++ text
+  pub short : length text ≤ most
+
+pub none_added : (before : List ℕ) → Added before [] 0 before
+none_added before = record { added = sym (append-nil before); short = omega arith }
+
+pub length_added : {before text after : List ℕ} {most : ℕ} → Added before text most after → length after ≤ length before + most
+length_added {before} {text} p = omega (arith, p.short, ap length p.added, length-append before text)
+
+module _ (key : String) {before text after : List ℕ} {most digits : ℕ} {z : ℤ} (p : Added before text most after) (s : Short key digits z) where
+  -- what a line asks ..
+  pub line_asked : {room : ℕ} → length before + (most + most_line (length (bytes key)) digits) ≤ room → (nat_abs (bits z) < 2 ^ 32) × (length after + length (printed key (bits z)) ≤ room)
+  line_asked h = rw (to_z-of_z s.fits) (s.small, omega (arith, h, s.line, length_added p))
+
+  -- .. and that it is added
+  pub line_added : {end : List ℕ} → end ≡ after ++ printed key (bits z) → Added before (text ++ printed key z) (most + most_line (length (bytes key)) digits) end
+  line_added e =
+      record {
+        added = e ∙ rw (to_z-of_z s.fits, p.added) (append_assoc before text (printed key z));
+        short = omega (arith, p.short, s.line, length-append text (printed key z));
+      }

@@ -1,16 +1,18 @@
 -- Text that is put piece after piece: what nothing, one byte and two pieces come to.
 use Prim.Native.Nat.{ℕ, suc, ◌+◌, ◌≤◌, ◌<◌}
 use mathlib.Core.Path.{◌≡◌, refl, sym, ap, ◌∙◌}
-use mathlib.Core.List.{List, [], ◌∷◌, ◌++◌, append-nil}
+use mathlib.Core.List.{List, [], ◌∷◌, ◌++◌, append-nil, append_assoc}
 use mathlib.Core.Logic.{⊎_elim}
 use native.Mathlib.Nat.{zero-add}
 use native.Mathlib.Numerals.{add-one}
 use native.Mathlib.Omega.{arith}
-use lib.ListN.{length, set, take, drop, length-append, take-append-drop, drop_of_length-le}
-use lib.Seq.{sets, set_out, set_comm, sets-eq, length-sets, take_all, length-take-le, drop-length, take-append_seam, drop-append_seam}
+use lib.ListN.{length, take, drop, length-append, take-append-drop, drop_of_length-le}
+use borrow.Rule.Slice.PartMut.{put_mid}
+use lib.Seq.{sets, set_out, sets-eq, length-sets, take_all, take-length, length-take-le, drop-length, take-append_seam, drop-append_seam}
+use Rattle.std.proofs.lemmas.Slice.{put_mid-paste}
 use Rattle.ranges.proofs.Ranges.{before_or_past}
 use Rattle.ranges.proofs.Stores.{sets_append}
-use Rattle.printing.specs.Pieces.{Put, Printed, Room}
+use Rattle.printing.specs.Pieces.{Put, Printed}
 
 pub put_nothing : (l : List ℕ) (i : ℕ) → Put l i [] i l
 put_nothing l i = record { counted = omega arith; stored = refl }
@@ -21,10 +23,6 @@ put_then {a} {b} {c} {x} {y} {i} {j} {k} p q =
       counted = omega (arith, p.counted, q.counted, length-append x y);
       stored = rw (q.stored, p.stored, p.counted, sets_append a i x y);
     }
-
--- a buffer keeps its length
-pub put_keeps_length : {a b x : List ℕ} {i j : ℕ} → Put a i x j b → length b ≡ length a
-put_keeps_length {a} {x = x} {i = i} p = rw p.stored (length-sets a i x)
 
 pub put_same : {a b x y : List ℕ} {i j : ℕ} → x ≡ y → Put a i x j b → Put a i y j b
 put_same e p = rw e at p
@@ -44,6 +42,11 @@ sets_front l i k x e h =
 
 pub put_front : {a b x : List ℕ} {i j : ℕ} (k : ℕ) → i + k ≡ length a → k ≤ length x → Put a i (take k x) j b → Put a i x (i + length x) b
 put_front {a} {x = x} {i = i} k e h p = record { counted = refl; stored = p.stored ∙ sym (sets_front a i k x e h) }
+
+-- a part of the text that holds the bytes now, as `copy_from_slice` leaves it
+pub put_part : {text part x : List ℕ} {at k : ℕ} → part ≡ x → k ≡ length x → at + length x ≤ length text → Put text at x (at + length x) (put_mid at k text part)
+put_part {text} {x = x} {at = at} {k = k} e n h =
+    record { counted = refl; stored = put_mid-paste at k text _ x k e refl n ∙ rw (n, take-length x) (sym (sets-eq x text at h)) }
 
 pub put_past : {a x : List ℕ} {i : ℕ} → length a ≤ i → Put a i x (i + length x) a
 put_past {a} {x} {i} h = record { counted = refl; stored = sym (sets_past a i x h) }
@@ -87,49 +90,21 @@ sets_held l x = ⊎_elim fitting longer (before_or_past (length x) (length l))
         ∙ sets_fitting l (take (length l) x) (rw (length-take-le (length l) x h) (omega arith))
         ∙ rw (length-take-le (length l) x h, drop-length l, drop_of_length-le l h)
 
--- what was put is what stands there
-pub put_taken : {a b x : List ℕ} {j : ℕ} → Put a 0 x j b → length x ≤ length a → take j b ≡ x
-put_taken {a} {x = x} p h = rw (p.counted, p.stored, sets_fitting a x h, zero-add) (take-append_seam x (drop (length x) a))
-
 pub put_printed : {before after text : List ℕ} {count : ℕ} → Put before 0 text count after → Printed before text count after
 put_printed {before} {text = text} p = record { counted = omega (arith, p.counted); held = p.stored ∙ sets_held before text }
 
--- ---- a text that is put before another
+-- ---- a text that grows by a piece
 
-set_before : (l : List ℕ) (i j a : ℕ) (y : List ℕ) → i < j → set (sets l j y) i a ≡ sets (set l i a) j y
-set_before l i j a [] h = refl
-set_before l i j a (b ∷ y) h =
-    set_before (set l j b) i (suc j) a y (omega arith)
-    ∙ ap (λ (k : List ℕ). sets k (suc j) y) (set_comm l j i b a (λ e. omega arith))
+pub added_then : (a x y : List ℕ) {b c : List ℕ} → b ≡ a ++ x → c ≡ b ++ y → c ≡ a ++ (x ++ y)
+added_then a x y e f = f ∙ ap (λ (text : List ℕ). text ++ y) e ∙ append_assoc a x y
 
-sets_before : (l : List ℕ) (i j : ℕ) (x y : List ℕ) → i + length x ≤ j → sets (sets l j y) i x ≡ sets (sets l i x) j y
-sets_before l i j [] y h = refl
-sets_before l i j (a ∷ x) y h =
-    ap (λ (k : List ℕ). sets k (suc i) x) (set_before l i j a y (omega arith)) ∙ sets_before (set l i a) (suc i) j x y (omega arith)
-
--- `y` is put first, and then `x` up to where it begins
-pub put_before : {a b c x y : List ℕ} {i j k m : ℕ} → j ≡ i + length x → Put a j y k b → Put b i x m c → Put a i (x ++ y) k c
-put_before {a} {x = x} {y = y} {i = i} {j = j} e p q =
-    record {
-      counted = omega (arith, e, p.counted, length-append x y);
-      stored = q.stored ∙ rw (p.stored, sets_before a i j x y (omega (arith, e)), e, sets_append a i x y);
-    }
-
--- ---- where there is room for two pieces, there is for each of them
-
-pub room_first : {a x : List ℕ} {i : ℕ} (y : List ℕ) → Room a i (x ++ y) → Room a i x
-room_first {x = x} y h = record { fits = omega (arith, h.fits, length-append x y) }
-
-pub room_rest : {a b x y : List ℕ} {i j : ℕ} → Put a i x j b → Room a i (x ++ y) → Room b j y
-room_rest {x = x} {y = y} p h = record { fits = omega (arith, h.fits, p.counted, put_keeps_length p, length-append x y) }
-
-pub room_same : {a x y : List ℕ} {i : ℕ} → x ≡ y → Room a i x → Room a i y
-room_same e h = rw e at h
-
--- ---- a text that grows by a piece with each turn of a loop
+-- with each turn of a loop
 
 abbrev pub Grows : (ℕ → List ℕ) → (ℕ → List ℕ) → Type 0
 Grows text piece = (i : ℕ) → text (suc i) ≡ text i ++ piece i
 
 pub put_turn : (text piece : ℕ → List ℕ) → Grows text piece → {a b c : List ℕ} {at next end : ℕ} (i : ℕ) → Put a at (text i) next b → Put b next (piece i) end c → Put a at (text (i + 1)) end c
 put_turn text piece grows i p q = rw (add-one i, grows i) (put_then p q)
+
+pub added_turn : (text piece : ℕ → List ℕ) → Grows text piece → (a : List ℕ) {b c : List ℕ} (i : ℕ) → b ≡ a ++ text i → c ≡ b ++ piece i → c ≡ a ++ text (i + 1)
+added_turn text piece grows a i e f = rw (add-one i, grows i) (added_then a (text i) (piece i) e f)

@@ -1,7 +1,7 @@
 -- Text put into a lent buffer, piece after piece. As with C's snprintf, the bytes that lie past the buffer's end are counted and not stored:
 -- the count is of the whole text, and the buffer holds as much of it as fits. No zero byte is put behind it.
 use Prim.Native.Char.{code}
-use Rattle.std.specs.Prelude.{ℕ, ◌+◌, ◌/◌, ◌%◌, ◌≤◌, List, [], ◌∷◌, ◌++◌, ◌≡◌, ℤ, pos, negsuc, length, take, drop}
+use Rattle.std.specs.Prelude.{ℕ, ◌+◌, ◌/◌, ◌%◌, List, [], ◌∷◌, ◌++◌, ◌≡◌, ℤ, pos, negsuc, length, take, drop}
 use Rattle.std.proofs.lemmas.List.Edits.{sets}
 use Rattle.ranges.specs.Range.{bytes}
 use Rattle.model.specs.Answer.{digit, decimal}
@@ -16,10 +16,6 @@ pub record Put (before : List ℕ) (at : ℕ) (text : List ℕ) (next : ℕ) (af
 pub record Printed (before text : List ℕ) (count : ℕ) (after : List ℕ) : Type 0 where
   pub counted : count ≡ length text
   pub held : after ≡ take (length before) text ++ drop (length text) before
-
--- The buffer has room for the text.
-pub record Room (buffer : List ℕ) (at : ℕ) (text : List ℕ) : Type 0 where
-  pub fits : at + length text ≤ length buffer
 
 -- The two digits of a number below 100, a leading 0 with them.
 abbrev pub pair : ℕ → List ℕ

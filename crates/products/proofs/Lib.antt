@@ -1,2 +1,3 @@
+pub mod Factors
+pub mod Kept
 mod OneProduct
-pub mod TablePlaces

@@ -9,8 +9,8 @@ use native.Mathlib.Decide.{dec_lt, le_ind}
 use native.Mathlib.Numerals.{add-one}
 use native.Mathlib.Omega.{arith}
 use lib.IntN.{ℤ, pos, nat_abs, ◌+ℤ◌, ◌*ℤ◌, zero-*ℤ, *ℤ-zero, +ℤ_idl, +ℤ_idr, +ℤ_assoc, +ℤ_comm}
-use lib.ListN.{length, get_or, length-append, get_or-append, get_or-eq_default}
-use lib.Seq.{get_or_at, ext_get_or}
+use lib.ListN.{length, get_or, take, length-append, get_or-append, get_or-eq_default}
+use lib.Seq.{get_or_at, ext_get_or, length-take-le, get_or-take}
 use lib.Signed.{◌≤ℤ◌, ≤ℤ_refl}
 use Rattle.rounding.specs.Enclosure.{Within}
 use Rattle.rounding.proofs.Integers.{abs_add, le_add, mul_add_ℤ}
@@ -173,6 +173,11 @@ get_or_tabulate_past n f x i h = get_or-eq_default (tabulate n f) x (rw length_t
 pub tabulate_is : {A : Type 0} (n : ℕ) (f : ℕ → A) (x : A) (xs : List A) → length xs ≡ n → ((i : ℕ) → i < n → f i ≡ get_or xs i x) → tabulate n f ≡ xs
 tabulate_is n f x xs len h =
     ext_get_or x (tabulate n f) xs (length_tabulate n f ∙ sym len) (λ i k. let l : i < n = rw length_tabulate at k in get_or_tabulate n f x i l ∙ h i l)
+
+-- the first n entries are the list's front
+pub tabulate_front : {A : Type 0} (n : ℕ) (x : A) (xs : List A) → n ≤ length xs → tabulate n (λ i. get_or xs i x) ≡ take n xs
+tabulate_front n x xs h =
+    tabulate_is n (λ i. get_or xs i x) x (take n xs) (length-take-le n xs h) (λ i k. sym (get_or-take n xs i x k))
 
 -- ---- fewer summands, and one of them
 

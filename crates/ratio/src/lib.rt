@@ -5,4 +5,4 @@ mod degree;
 mod sizes;
 
 pub use degree::{Truncation, truncate};
-pub use sizes::{SUMS, largest_reach, ratio, sums_of};
+pub use sizes::{COUNTS, Sums, largest_reach, ratio, sums_of};

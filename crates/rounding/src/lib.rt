@@ -1,20 +1,9 @@
-// Document 01, 'One rounded step': the two roundings, and the magnitude that they work on.
+// Document 01, 'One rounded step': the two roundings. Stays: that d is not 0 is asked by each; d is s, an order from 1 up, G or s less the
+// ratio, and a `NonZero` would wrap each of these at its call.
 #![tactic(auto)]
 
 ghost use Rattle.std.specs.Prelude.{◌≡◌, ◌+◌, ◌*◌, ◌<◌, ◌≤◌, ◌^◌, pos, neg_ℤ, nat_abs};
 ghost use Rattle.rounding.specs.Rounding as rounding;
-
-// |n|, which for the least i64 is one more than the largest.
-pub fn magnitude(n: i64) -> u64
-    ensures { result ≡ nat_abs n }
-{
-    if n < 0 {
-        let below = -(n + 1);
-        below as u64 + 1
-    } else {
-        n as u64
-    }
-}
 
 // m with a minus in front: |-m| may be one more than the largest i64.
 fn negated(m: u64) -> i64
@@ -37,7 +26,7 @@ pub fn product(m: u64, n: u64) -> u64
 {
     let short = m as u32;
     let other = n as u32;
-    short as u64 * other as u64
+    u64::from(short) * u64::from(other)
 }
 
 // up(n, d): the least whole number not below n ÷ d.
@@ -45,8 +34,7 @@ pub fn up(n: u64, d: u64) -> u64
     requires { 0 < d }
     ensures { result ≡ rounding.up n d }
 {
-    let quotient = n / d;
-    if n % d == 0 { quotient } else { quotient + 1 }
+    n.div_ceil(d)
 }
 
 // up(n, d) + 1, the radius of what is rounded once more, where 2d - 1 can be added first.
@@ -72,6 +60,6 @@ pub fn near(n: i64, d: u64) -> i64
     requires { 0 < d }
     ensures { result ≡ rounding.near n d }
 {
-    let m = near_magnitude(magnitude(n), d);
+    let m = near_magnitude(n.unsigned_abs(), d);
     if n < 0 { negated(m) } else { m as i64 }
 }

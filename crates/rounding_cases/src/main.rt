@@ -4,33 +4,22 @@
 
 ghost use Rattle.std.specs.Prelude.{◌<◌};
 
+use rounding::{near, up};
 use std::io;
-
-// A number with its sign.
-fn print_signed(rt: &HostRuntime, n: i64) -> io::Result<()> {
-    if n < 0 {
-        print!(rt; "-")?;
-    }
-    let m = rounding::magnitude(n);
-    print!(rt; "{m}")
-}
 
 // near(n, d), as a line.
 fn print_near(rt: &HostRuntime, n: i64, d: u64) -> io::Result<()>
     requires { 0 < d }
 {
-    print!(rt; "near(")?;
-    print_signed(rt, n)?;
-    print!(rt; ",{d})=")?;
-    print_signed(rt, rounding::near(n, d))?;
-    println!(rt)
+    let nearest = near(n, d);
+    println!(rt; "near({n},{d})={nearest}")
 }
 
 // up(n, d), as a line.
 fn print_up(rt: &HostRuntime, n: u64, d: u64) -> io::Result<()>
     requires { 0 < d }
 {
-    let least = rounding::up(n, d);
+    let least = up(n, d);
     println!(rt; "up({n},{d})={least}")
 }
 
@@ -47,27 +36,30 @@ fn print_case(rt: &HostRuntime) -> io::Result<()> {
 // near at the ends of the ranges, and of a divisor above every numerator.
 fn print_near_ends(rt: &HostRuntime) -> io::Result<()> {
     print_near(rt, 0, 1)?;
-    print_near(rt, 9223372036854775807, 1)?;
-    print_near(rt, -9223372036854775808, 1)?;
-    print_near(rt, 9223372036854775807, 2)?;
-    print_near(rt, -9223372036854775808, 2)?;
-    print_near(rt, 9223372036854775807, 16777216)?;
-    print_near(rt, -9223372036854775808, 16777216)?;
-    print_near(rt, 8388607, 16777216)?;
-    print_near(rt, 8388608, 16777216)?;
-    print_near(rt, -8388607, 16777216)?;
-    print_near(rt, -8388608, 16777216)?;
-    print_near(rt, 9223372036854775807, 18446744073709551615)?;
-    print_near(rt, -9223372036854775808, 18446744073709551615)
+    for n in [i64::MAX, i64::MIN] {
+        print_near(rt, n, 1)?;
+    }
+    for n in [i64::MAX, i64::MIN] {
+        print_near(rt, n, 2)?;
+    }
+    for n in [i64::MAX, i64::MIN, 8388607, 8388608, -8388607, -8388608] {
+        print_near(rt, n, 16777216)?;
+    }
+    for n in [i64::MAX, i64::MIN] {
+        print_near(rt, n, u64::MAX)?;
+    }
+    Ok(())
 }
 
 // up at the same.
 fn print_up_ends(rt: &HostRuntime) -> io::Result<()> {
-    print_up(rt, 18446744073709551615, 1)?;
-    print_up(rt, 18446744073709551615, 2)?;
-    print_up(rt, 18446744073709551615, 18446744073709551615)?;
-    print_up(rt, 18446744073709551614, 18446744073709551615)?;
-    print_up(rt, 1, 18446744073709551615)
+    for d in [1, 2, u64::MAX] {
+        print_up(rt, u64::MAX, d)?;
+    }
+    for n in [u64::MAX - 1, 1] {
+        print_up(rt, n, u64::MAX)?;
+    }
+    Ok(())
 }
 
 // Cases of both roundings, at the ends of 64 bits too.

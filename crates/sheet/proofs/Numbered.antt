@@ -1,19 +1,15 @@
 -- A reading gives its refusal's number and no step.
-use Prim.Native.Nat.{ℕ}
-use mathlib.Core.Path.{◌≡◌, refl, ap, ◌∙◌}
-use mathlib.Core.List.{List}
-use Rattle.model.specs.Sheet.{result, refused_step, Gives}
+use Rattle.std.proofs.Common.{◌≡◌, ℕ, List, Ok, Err, refl, ap, ◌∙◌}
+use Rattle.model.specs.Sheet.{Outcome, result, refused_step, Gives}
 use Rattle.model.specs.Reading.{read_sheet_to}
-use Rattle.model.specs.declared.Outcome.{Outcome}
-use Rattle.model.specs.declared.Outcome.TheVariants.{Accepted, Refused}
 use Rattle.model.specs.declared.ReadSheet.{ReadSheet}
 use Rattle.laws.proofs.Text.Readings.{refused_is_zeros}
 
--- what is read is accepted, or refused with step 0
+-- what is read is not refused, or refused with step 0
 before_steps : (high : ℕ) (text : List ℕ) (o : Outcome) → (read_sheet_to high text).outcome ≡ o → refused_step o ≡ 0
 unfolding refused_step
-before_steps high text Accepted e = refl
-before_steps high text (Refused r step) e = (refused_is_zeros high text e).before_steps
+before_steps high text (Ok done) e = refl
+before_steps high text (Err refused) e = (refused_is_zeros high text e).before_steps
 
 -- a reading's number, and no step
 pub numbered : (high : ℕ) (text : List ℕ) {r : ReadSheet} → r ≡ read_sheet_to high text → Gives r.outcome (result (read_sheet_to high text).outcome) 0

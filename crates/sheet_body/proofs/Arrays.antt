@@ -12,10 +12,16 @@ use lib.Seq.{length-take-le, take-suc-set, drop-set-lt, drop-drop}
 use Rattle.model.specs.Sheet.{padded}
 use Rattle.model.specs.Reading.{parsed, fault, Parser, return, ◌>>=◌, times}
 use Rattle.model.specs.declared.Refusal.{Refusal}
-use Rattle.model.specs.declared.Outcome.{Outcome}
-use Rattle.model.specs.declared.Outcome.TheVariants.{Accepted, Refused}
-use Rattle.lines.proofs.FieldsRead.{bind_parsed, bind_fault}
-use Rattle.sheet_body.specs.BodyRead.{with_outcome}
+
+-- one reader after the other, by what the first gives
+module _ {A B : Type 0} (p : Parser A) (f : A → Parser B) {l : List ℕ} where
+  pub bind_parsed : {a : A} {m : List ℕ} → p l ≡ parsed a m → (p >>= f) l ≡ f a m
+  unfolding ◌>>=◌
+  bind_parsed e = rw (e, ◌>>=◌)
+
+  pub bind_fault : {r : Refusal} → p l ≡ fault r → (p >>= f) l ≡ fault r
+  unfolding ◌>>=◌
+  bind_fault e = rw (e, ◌>>=◌)
 
 module _ {A : Type 0} (p : Parser A) (from : List ℕ) where
   one_more : (i : ℕ) {xs : List A} {x : A} {here next : List ℕ} → times i p from ≡ parsed xs here → p here ≡ parsed x next → times (suc i) p from ≡ parsed (xs ++ (x ∷ [])) next
@@ -66,14 +72,3 @@ module _ {A : Type 0} (p : Parser A) (size : ℕ) (none : A) (from : List ℕ) w
       where
         whole : take i list ++ replicate (size - length (take i list)) none ≡ list
         whole = rw (length-take-le i list (rw f.long (omega arith)), ← f.past) (take-append-drop i list)
-
--- ---- what the reader hands back
-
-module _ {A : Type 0} (a : A) (l : List ℕ) where
-  pub accepted_with : {o : Outcome} → o ≡ Accepted → with_outcome o a l ≡ parsed a l
-  unfolding with_outcome
-  accepted_with e = rw e
-
-  pub refused_with : {o : Outcome} {r : Refusal} {step : ℕ} → o ≡ Refused r step → with_outcome o a l ≡ fault r
-  unfolding with_outcome
-  refused_with e = rw e

@@ -4,72 +4,43 @@
 ghost use Rattle.std.specs.Prelude.{◌≡◌};
 ghost use Rattle.model.specs.Sheet.{no_head};
 ghost use Rattle.model.specs.Reading as model;
-ghost use Rattle.lines.specs.Places.{rest};
-ghost use Rattle.lines.specs.Fields.{whole_read};
-ghost use Rattle.sheet_head.specs.HeadRead.{head_read, head_gives};
+ghost use Rattle.lines.specs.Fields.{read_as};
+ghost use Rattle.sheet_head.specs.HeadRead.{head_gives};
 
-use lines::{Cursor, NaturalLine, Spelled, Whole, WholeLine};
+use lines::{line, natural_field};
 use model::{Head, Refusal};
 
-// What the lines above the quantities hold, or their first refusal.
-#[derive(Clone, Copy)]
-pub enum HeadLines {
-    Hold(Head, Cursor),
-    Fault(Refusal),
-}
-
-// The step, which may have a minus and is not 0.
-fn read_step(text: &[u8], from: Cursor) -> WholeLine
-    ensures { whole_read text.now result ≡ model.step (rest text.now from) }
+// The step, which may have a minus and is not 0. Stays beside `whole_field`: its range is no interval, and one reader over both would take
+// the question as a closure, for two lines.
+#[tactic(auto, unfolding(model::specs::Reading::step, lines::proofs::Readers::FieldReaders))]
+fn read_step(text: &[u8]) -> Result<(i64, &[u8]), Refusal>
+    ensures { read_as result ≡ model.step text.now }
 {
-    let Spelled::Number(step, next) = from.line(text, b"step=", true) else {
-        return WholeLine::Fault(Refusal::Misspelt);
-    };
+    let (step, text) = line(text, b"step=", true).ok_or(Refusal::Misspelt)?;
     if limits::step_within(step) {
-        WholeLine::Holds(Whole { value: step, next })
+        Ok((step, text))
     } else {
-        WholeLine::Fault(Refusal::OutOfRange)
+        Err(Refusal::OutOfRange)
     }
 }
 
 // The lines above the quantities, with at most so many steps.
-pub fn read_head(text: &[u8], most: u32, from: Cursor) -> HeadLines
-    ensures read { head_read text.now result ≡ model.head most (rest text.now from) }
-    ensures numbered { head_gives result ≡ model.gives no_head (model.head most (rest text.now from)) }
+#[tactic(auto, unfolding(model::specs::Reading::head, crate::specs::HeadRead::head_gives, lines::proofs::Readers::FieldReaders))]
+pub fn read_head(text: &[u8], most: u32) -> Result<(Head, &[u8]), Refusal>
+    ensures read { read_as result ≡ model.head most text.now }
+    ensures numbered { head_gives result ≡ model.gives no_head (model.head most text.now) }
 {
-    let n = match from.natural_field(text, b"n=", limits::N) {
-        NaturalLine::Holds(field) => field,
-        NaturalLine::Fault(refusal) => return HeadLines::Fault(refusal),
+    let (n, text) = natural_field(text, b"n=", limits::N)?;
+    let (steps, text) = natural_field(text, b"steps=", limits::steps_limits(most))?;
+    let (step, text) = read_step(text)?;
+    let (tail, text) = natural_field(text, b"tail=", limits::TAIL)?;
+    let (tol, text) = natural_field(text, b"tol=", limits::TOL)?;
+    let head = Head {
+        n: n as usize,
+        steps: steps as usize,
+        step,
+        tail,
+        tol,
     };
-    let steps = match n
-        .next
-        .natural_field(text, b"steps=", limits::steps_limits(most))
-    {
-        NaturalLine::Holds(field) => field,
-        NaturalLine::Fault(refusal) => return HeadLines::Fault(refusal),
-    };
-    let after_steps = steps.next;
-    let step = match read_step(text, after_steps) {
-        WholeLine::Holds(field) => field,
-        WholeLine::Fault(refusal) => return HeadLines::Fault(refusal),
-    };
-    let tail = match step.next.natural_field(text, b"tail=", limits::TAIL) {
-        NaturalLine::Holds(field) => field,
-        NaturalLine::Fault(refusal) => return HeadLines::Fault(refusal),
-    };
-    let tol = match tail.next.natural_field(text, b"tol=", limits::TOL) {
-        NaturalLine::Holds(field) => field,
-        NaturalLine::Fault(refusal) => return HeadLines::Fault(refusal),
-    };
-    let end = tol.next;
-    HeadLines::Hold(
-        Head {
-            n: n.value as usize,
-            steps: steps.value as usize,
-            step: step.value,
-            tail: tail.value,
-            tol: tol.value,
-        },
-        end,
-    )
+    Ok((head, text))
 }

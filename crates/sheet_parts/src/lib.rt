@@ -1,93 +1,69 @@
 // Document 02, the conversion of stored sheets: the two parts of a sheet of more steps than a passage may have, as numbers.
 #![tactic(auto)]
 
-ghost use Rattle.std.specs.Prelude.{◌≤◌, ◌<◌, map, ◌≡◌};
+ghost use Rattle.std.specs.Prelude.{◌≤◌, ◌<◌, map, length, ◌≡◌};
 ghost use Rattle.model.specs.Sheet.{most_quantities, most_steps, quantities_held};
-ghost use Rattle.model.specs.Rows.{row_in, balls_of, laid_out};
+ghost use Rattle.model.specs.Rows.{balls_of, laid_out};
 ghost use Rattle.stored.specs.Conversion as model;
-ghost use Rattle.rows.specs.Room.{HasRow};
+ghost use Rattle.rows.specs.View.{row_of};
 
-use model::{Balls, Head, MOST_QUANTITIES, MOST_STEPS, Quantity, Sheet, Start};
-use rows::{radius_at, value_at};
-use sheet_body::no_quantity;
-
-// The same with so many steps.
-#[tactic(auto, unfolding(stored::specs::Conversion::with_steps))]
-fn with_steps(head: Head, steps: usize) -> Head
-    ensures { result ≡ model.with_steps steps head }
-{
-    Head {
-        n: head.n,
-        steps,
-        step: head.step,
-        tail: head.tail,
-        tol: head.tol,
-    }
-}
+use model::{
+    Ball, Balls, Head, MOST_QUANTITIES, MOST_STEPS, NO_BALL, NO_QUANTITY, Quantity, Sheet,
+};
+use rows::Row;
 
 // The first steps of a sheet, as many as a passage may have.
-#[tactic(auto, unfolding(stored::specs::Conversion::first_part))]
-pub fn first_part(sheet: Sheet) -> Sheet
-    ensures { result ≡ model.first_part most_steps sheet }
+#[tactic(auto, unfolding(stored::specs::Conversion::first_part, stored::specs::Conversion::with_steps))]
+pub fn first_part(sheet: &Sheet) -> Sheet
+    ensures { result ≡ model.first_part most_steps sheet.now }
 {
-    let head = with_steps(sheet.head, MOST_STEPS);
-    let quantities = sheet.quantities;
-    let terms = sheet.terms;
     Sheet {
-        head,
-        quantities,
-        terms,
+        head: Head {
+            steps: MOST_STEPS,
+            ..sheet.head
+        },
+        ..*sheet
     }
 }
 
-// The values and radii of a row, the rows counted from 0, with 0 past them.
-pub fn balls_of(n: usize, rows: &[i64], row: usize) -> Balls
-    requires { HasRow n row rows.now }
-    ensures { result ≡ laid_out (row_in n rows.now row).balls }
+// The values and radii of a row, with 0 past them. Stays: as `starts_of` of `passage`.
+pub fn balls_of(row: Row) -> Balls
+    ensures { result ≡ laid_out (row_of row.entry).balls }
 {
-    let mut values = [0i64; MOST_QUANTITIES];
-    let mut radii = [0u64; MOST_QUANTITIES];
-    let mut i = 0;
-    while i < n {
-        values[i] = value_at(rows, n, row, i);
-        radii[i] = radius_at(rows, n, row, i);
-        i += 1;
+    let mut balls = [NO_BALL; MOST_QUANTITIES];
+    for i in 0..row.n {
+        balls[i] = row.ball(i);
     }
-    Balls { values, radii }
+    balls
 }
 
 // Quantities that start from values and radii.
-fn starting_from(n: usize, balls: Balls) -> [Quantity; MOST_QUANTITIES]
-    requires { n ≤ most_quantities }
-    ensures { result ≡ quantities_held (map model.starting_from (balls_of n balls)) }
+fn starting_from(balls: &[Ball]) -> [Quantity; MOST_QUANTITIES]
+    requires { length balls.now ≤ most_quantities }
+    ensures { result ≡ quantities_held (map model.starting_from balls.now) }
 {
-    let none = no_quantity();
-    let mut quantities = [none; MOST_QUANTITIES];
-    let mut i = 0;
-    while i < n {
-        let value = balls.values[i];
-        let radius = balls.radii[i];
+    let mut quantities = [NO_QUANTITY; MOST_QUANTITIES];
+    for (i, ball) in balls.iter().enumerate() {
         quantities[i] = Quantity {
-            start: Start::Reading(value),
-            radius,
+            start: Some(ball.value),
+            radius: ball.radius,
         };
-        i += 1;
     }
     quantities
 }
 
 // The steps that are left, from these values and radii.
-pub fn second_part(sheet: Sheet, balls: Balls) -> Sheet
-    requires n_le_most_quantities { sheet.head.n ≤ most_quantities }
-    requires most_steps_lt_steps { most_steps < sheet.head.steps }
-    ensures { result ≡ model.second_part most_steps sheet (balls_of sheet.head.n balls) }
+pub fn second_part(sheet: &Sheet, balls: &Balls) -> Sheet
+    requires n_le_most_quantities { sheet.now.head.n ≤ most_quantities }
+    requires most_steps_lt_steps { most_steps < sheet.now.head.steps }
+    ensures { result ≡ model.second_part most_steps sheet.now (balls_of sheet.now.head.n balls.now) }
 {
-    let head = with_steps(sheet.head, sheet.head.steps - MOST_STEPS);
-    let quantities = starting_from(head.n, balls);
-    let terms = sheet.terms;
     Sheet {
-        head,
-        quantities,
-        terms,
+        head: Head {
+            steps: sheet.head.steps - MOST_STEPS,
+            ..sheet.head
+        },
+        quantities: starting_from(&balls[..sheet.head.n]),
+        ..*sheet
     }
 }

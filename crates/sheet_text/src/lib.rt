@@ -1,19 +1,19 @@
 // Document 02, the conversion of stored sheets: a sheet's text, put into a lent buffer.
 //
 // The lines are put into a buffer of their own, which has room for the longest sheet, and from there as much of them as fits
-// into the text. Each function hands back the place that follows what it put, as those of `decimal` do.
+// into the text.
 #![tactic(auto)]
 
-ghost use Rattle.std.specs.Prelude.{ℕ, ◌+◌, ◌*◌, ◌^◌, ◌≤◌, ◌<◌, ◌≡◌, length, get_or};
+ghost use Rattle.std.specs.Prelude.{ℕ, ◌+◌, ◌*◌, ◌^◌, ◌≤◌, ◌<◌, ◌++◌, ◌≡◌, length, get_or};
 ghost use mathlib.Core.List.{flatten};
 ghost use Rattle.ranges.specs.Range.{tabulate};
-ghost use Rattle.model.specs.Sheet.{most_quantities, most_terms, stored_steps, passes, head_verdict, start_verdict, quantity_verdict, quantities_verdict, sheet_verdict_to, no_quantity, no_term};
+ghost use Rattle.model.specs.Sheet.{stored_steps, passes, head_verdict, start_verdict, quantity_verdict, quantities_verdict, sheet_verdict_to, no_quantity, no_term};
 ghost use Rattle.stored.specs.Conversion as conversion;
 ghost use Rattle.printing.specs.Pieces.{Put};
 ghost use Rattle.printing.specs.SheetLength.{most_head, most_start, most_quantity, most_term, most_sheet, TermShort};
 
-use decimal::{ENDS, put_bytes, put_front, put_line};
-use model::{Head, MOST_QUANTITIES, MOST_TERMS, Quantity, Sheet, Start, Term, Terms};
+use decimal::{ENDS, Lines, put_front};
+use model::{Head, MOST_QUANTITIES, MOST_TERMS, Quantity, Sheet, Term};
 
 // The byte of a sign.
 const SIGN: usize = 1;
@@ -39,116 +39,96 @@ pub const SHEET_TEXT_LENGTH: usize = MOST_HEAD
     + MOST_COUNT
     + MOST_TERMS * MOST_TERM;
 
+// The lines of a sheet.
+type SheetLines = Lines<SHEET_TEXT_LENGTH>;
+
 // The lines above the quantities.
-fn put_head(text: &mut [u8], at: usize, head: Head) -> usize
+fn put_head(lines: &mut SheetLines, head: Head)
     requires head_value { head_verdict stored_steps head ≡ passes }
-    requires most_head_in_bounds { at + most_head ≤ length text.old }
-    ensures put { Put text.old at (conversion.head_text head) result text.new }
-    ensures bounded { result ≤ at + most_head }
+    requires most_head_in_bounds { length lines.old + most_head ≤ SHEET_TEXT_LENGTH }
+    ensures put { lines.new ≡ lines.old ++ conversion.head_text head }
+    ensures bounded { length lines.new ≤ length lines.old + most_head }
 {
-    let step = head.step;
-    let counted = put_line(text, at, b"n=", head.n as i64);
-    let stepped = put_line(text, counted, b"steps=", head.steps as i64);
-    let measured = put_line(text, stepped, b"step=", step);
-    let cut = put_line(text, measured, b"tail=", head.tail as i64);
-    put_line(text, cut, b"tol=", head.tol as i64)
+    lines.line(b"n=", head.n as i64);
+    lines.line(b"steps=", head.steps as i64);
+    lines.line(b"step=", head.step);
+    lines.line(b"tail=", head.tail as i64);
+    lines.line(b"tol=", head.tol as i64);
 }
 
 // A start.
-fn put_start(text: &mut [u8], at: usize, start: Start) -> usize
+fn put_start(lines: &mut SheetLines, start: Option<i64>)
     requires start_value { start_verdict start ≡ passes }
-    requires most_start_in_bounds { at + most_start ≤ length text.old }
-    ensures put { Put text.old at (conversion.start_text start) result text.new }
-    ensures bounded { result ≤ at + most_start }
+    requires most_start_in_bounds { length lines.old + most_start ≤ SHEET_TEXT_LENGTH }
+    ensures put { lines.new ≡ lines.old ++ conversion.start_text start }
+    ensures bounded { length lines.new ≤ length lines.old + most_start }
 {
     match start {
-        Start::Reading(value) => put_line(text, at, b"start=", value),
-        Start::Missing => put_bytes(text, at, b"start=none\n"),
+        Some(value) => lines.line(b"start=", value),
+        None => lines.bytes(b"start=none\n"),
     }
 }
 
 // A start and its radius.
-fn put_quantity(text: &mut [u8], at: usize, quantity: Quantity) -> usize
+fn put_quantity(lines: &mut SheetLines, quantity: Quantity)
     requires quantity_value { quantity_verdict quantity ≡ passes }
-    requires most_quantity_in_bounds { at + most_quantity ≤ length text.old }
-    ensures put { Put text.old at (conversion.quantity_text quantity) result text.new }
-    ensures bounded { result ≤ at + most_quantity }
+    requires most_quantity_in_bounds { length lines.old + most_quantity ≤ SHEET_TEXT_LENGTH }
+    ensures put { lines.new ≡ lines.old ++ conversion.quantity_text quantity }
+    ensures bounded { length lines.new ≤ length lines.old + most_quantity }
 {
-    let start = quantity.start;
-    let started = put_start(text, at, start);
-    put_line(text, started, b"radius=", quantity.radius as i64)
+    put_start(lines, quantity.start);
+    lines.line(b"radius=", quantity.radius as i64);
 }
 
-// The lines of the first n quantities.
-fn put_quantities(
-    text: &mut [u8],
-    at: usize,
-    n: usize,
-    quantities: [Quantity; MOST_QUANTITIES],
-) -> usize
-    requires n_le_most_quantities { n ≤ most_quantities }
-    requires quantities_value { quantities_verdict n quantities ≡ passes }
-    requires most_quantity_in_bounds { at + n * most_quantity ≤ length text.old }
-    ensures put { Put text.old at (flatten (tabulate n (λ i. conversion.quantity_text (get_or quantities i no_quantity)))) result text.new }
-    ensures bounded { result ≤ at + n * most_quantity }
+// The lines of the quantities.
+fn put_quantities(lines: &mut SheetLines, quantities: &[Quantity])
+    requires quantities_value { quantities_verdict (length quantities.now) quantities.now ≡ passes }
+    requires most_quantity_in_bounds { length lines.old + length quantities.now * most_quantity ≤ SHEET_TEXT_LENGTH }
+    ensures put { lines.new ≡ lines.old ++ flatten (tabulate (length quantities.now) (λ i. conversion.quantity_text (get_or quantities.now i no_quantity))) }
+    ensures bounded { length lines.new ≤ length lines.old + length quantities.now * most_quantity }
 {
-    let mut next = at;
-    let mut i = 0;
-    while i < n {
-        let quantity = quantities[i];
-        next = put_quantity(text, next, quantity);
-        i += 1;
+    for quantity in quantities {
+        put_quantity(lines, *quantity);
     }
-    next
 }
 
 // A term.
-fn put_term(text: &mut [u8], at: usize, term: Term) -> usize
+fn put_term(lines: &mut SheetLines, term: Term)
     requires term_short { TermShort term }
-    requires most_term_in_bounds { at + most_term ≤ length text.old }
-    ensures put { Put text.old at (conversion.term_text term) result text.new }
-    ensures bounded { result ≤ at + most_term }
+    requires most_term_in_bounds { length lines.old + most_term ≤ SHEET_TEXT_LENGTH }
+    ensures put { lines.new ≡ lines.old ++ conversion.term_text term }
+    ensures bounded { length lines.new ≤ length lines.old + most_term }
 {
-    let coef = term.coef;
-    let targeted = put_line(text, at, b"to=", term.to as i64);
-    let weighed = put_line(text, targeted, b"coef=", coef);
-    let factored = put_line(text, weighed, b"first=", term.first as i64);
-    put_line(text, factored, b"second=", term.second as i64)
+    lines.line(b"to=", term.to as i64);
+    lines.line(b"coef=", term.coef);
+    lines.line(b"first=", term.first as i64);
+    lines.line(b"second=", term.second as i64);
 }
 
-// The lines of the terms that are counted.
-fn put_terms(text: &mut [u8], at: usize, terms: Terms) -> usize
-    requires count_le_most_terms { terms.count ≤ most_terms }
-    requires by_index { (j : ℕ) → j < terms.count → TermShort (get_or terms.list j no_term) }
-    requires most_term_in_bounds { at + terms.count * most_term ≤ length text.old }
-    ensures put { Put text.old at (flatten (tabulate terms.count (λ j. conversion.term_text (get_or terms.list j no_term)))) result text.new }
-    ensures bounded { result ≤ at + terms.count * most_term }
+// The lines of the terms. Stays beside `put_quantities`: a loop of one line, where one over both would take a closure with its contract.
+fn put_terms(lines: &mut SheetLines, terms: &[Term])
+    requires by_index { (j : ℕ) → j < length terms.now → TermShort (get_or terms.now j no_term) }
+    requires most_term_in_bounds { length lines.old + length terms.now * most_term ≤ SHEET_TEXT_LENGTH }
+    ensures put { lines.new ≡ lines.old ++ flatten (tabulate (length terms.now) (λ j. conversion.term_text (get_or terms.now j no_term))) }
+    ensures bounded { length lines.new ≤ length lines.old + length terms.now * most_term }
 {
-    let count = terms.count;
-    let mut next = at;
-    let mut j = 0;
-    while j < count {
-        let term = terms.list[j];
-        next = put_term(text, next, term);
-        j += 1;
+    for term in terms {
+        put_term(lines, *term);
     }
-    next
 }
 
-// A sheet's lines, from the buffer's start on.
-fn put_lines(text: &mut [u8], sheet: Sheet) -> usize
+// A sheet's lines.
+fn put_lines(lines: &mut SheetLines, sheet: Sheet)
     requires sheet_value { sheet_verdict_to stored_steps sheet ≡ passes }
-    requires most_sheet_in_bounds { most_sheet ≤ length text.old }
-    ensures put { Put text.old 0 (conversion.sheet_text sheet) result text.new }
-    ensures bounded { result ≤ most_sheet }
+    requires most_sheet_in_bounds { length lines.old + most_sheet ≤ SHEET_TEXT_LENGTH }
+    ensures put { lines.new ≡ lines.old ++ conversion.sheet_text sheet }
+    ensures bounded { length lines.new ≤ length lines.old + most_sheet }
 {
-    let head = sheet.head;
-    let quantities = sheet.quantities;
-    let terms = sheet.terms;
-    let headed = put_head(text, 0, head);
-    let started = put_quantities(text, headed, head.n, quantities);
-    let counted = put_line(text, started, b"terms=", terms.count as i64);
-    put_terms(text, counted, terms)
+    let n = sheet.head.n;
+    put_head(lines, sheet.head);
+    put_quantities(lines, &sheet.quantities[..n]);
+    lines.line(b"terms=", sheet.terms.count as i64);
+    put_terms(lines, sheet.terms.listed());
 }
 
 // A sheet in range, as many of its bytes as there is room for.
@@ -158,7 +138,7 @@ pub fn put_sheet(text: &mut [u8], at: usize, sheet: Sheet) -> usize
     ensures put { Put text.old at (conversion.sheet_text sheet) result text.new }
     ensures bounded { result ≤ at + most_sheet }
 {
-    let mut lines = [0u8; SHEET_TEXT_LENGTH];
-    let length = put_lines(&mut lines, sheet);
-    put_front(text, at, &lines[..length])
+    let mut lines = SheetLines::new();
+    put_lines(&mut lines, sheet);
+    put_front(text, at, lines.as_slice())
 }

@@ -10,7 +10,6 @@ use Rattle.model.specs.Step.{Row}
 use Rattle.model.specs.Rows.{balls_of}
 use Rattle.model.specs.Passage.{Advance, moves, stops, step_of}
 use Rattle.model.specs.declared.Ball.{Ball}
-use Rattle.model.specs.declared.Balls.{Balls}
 use Rattle.model.specs.declared.Sheet.{Sheet}
 use Rattle.enclosure.specs.Trust.{Trusted, Spanned}
 use Rattle.taylor.specs.StepAnswers.{advance_of, row_laid_out, answered, rows_given, Numbered}
@@ -24,7 +23,7 @@ use Rattle.enclosure.proofs.PromisedRows.{rows_moved, step_trusted, step_spanned
 -- ---- the row that is given
 
 -- the answer to a step gives the row that the step comes to, where that has n quantities
-given_is_moved : (n : ℕ) (start : Balls) (next : Advance) → ((row : Row) → next ≡ moves row → Quantities n row) → rows_given n (answered start next) ≡ rows_moved next
+given_is_moved : (n : ℕ) (start : List Ball) (next : Advance) → ((row : Row) → next ≡ moves row → Quantities n row) → rows_given n (answered start next) ≡ rows_moved next
 unfolding rows_given answered advance_of row_laid_out rows_moved
 given_is_moved n start (moves row) full = rw (balls_laid_out n row.balls (full row refl).balls, spans_laid_out_lem n row.spans (full row refl).spans)
 given_is_moved n start (stops r) full = refl
@@ -39,7 +38,7 @@ step_quantities sheet balls n wide row e = judged (sheet_verdict sheet) refl
 
 -- ---- all that is promised
 
-module _ (sheet : Sheet) (start : Balls) where
+module _ (sheet : Sheet) (start : List Ball) where
   abbrev n : ℕ
   n = sheet.head.n
 
@@ -64,7 +63,7 @@ module _ (sheet : Sheet) (start : Balls) where
       }
     where
       given : rows_given n (answered start meant) ≡ rows_moved meant
-      given = given_is_moved n start meant (step_quantities sheet balls n (length_balls n start.values start.radii))
+      given = given_is_moved n start meant (step_quantities sheet balls n (length_balls n start))
 
       advance_is : (next : Advance) → (answered start next).advance ≡ advance_of next
       advance_is (moves row) = unfold answered in refl

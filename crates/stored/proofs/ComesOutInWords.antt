@@ -8,7 +8,7 @@ use mathlib.Core.List.{List, ◌++◌}
 use native.Mathlib.Omega.{arith}
 use lib.ListN.{length}
 use Rattle.ranges.specs.Range.{bytes}
-use Rattle.model.specs.Sheet.{most_steps, stored_steps, starts_of}
+use Rattle.model.specs.Sheet.{not_refused, refused_at, most_steps, stored_steps, starts_of}
 use Rattle.model.specs.Reading.{read_sheet_to, read_sheet}
 use Rattle.model.specs.Passage.{small, Run, run, rows_written}
 use Rattle.model.specs.Answer.{outcome_text}
@@ -17,7 +17,6 @@ use Rattle.model.specs.declared.Sheet.{Sheet}
 use Rattle.model.specs.declared.ReadSheet.{ReadSheet}
 use Rattle.model.specs.declared.Refusal.{Refusal}
 use Rattle.model.specs.declared.Refusal.TheVariants.{TooLarge}
-use Rattle.model.specs.declared.Outcome.TheVariants.{Accepted, Refused}
 use Rattle.laws.proofs.Passages.RowsOfPassage.{rows_of_run}
 use Rattle.stored.specs.Conversion.{last_balls, later, joined, Split, ComesOut, ComesOutAs, refused_sheet, unaltered, refused_passage, two_sheets}
 use Rattle.stored.proofs.Parts.{accepted_not_refused}
@@ -36,11 +35,11 @@ module _ (long : Sheet) (text : List ℕ) (split : Split long text) where
   two_printed = split.text_is
 
   -- the reader of a passage's sheet takes both
-  pub both_read : (first.outcome ≡ Accepted) × (second.outcome ≡ Accepted)
+  pub both_read : (first.outcome ≡ not_refused) × (second.outcome ≡ not_refused)
   both_read = (split.first_read, split.second_read)
 
   -- the first has as many steps as a passage may have, and all of them are taken
-  pub first_whole : (first.sheet.head.steps ≡ most_steps) × ((run first.sheet).outcome ≡ Accepted)
+  pub first_whole : (first.sheet.head.steps ≡ most_steps) × ((run first.sheet).outcome ≡ not_refused)
   first_whole = (split.first_steps, split.first_taken)
 
   -- the next starts from the last printed values and radii, and these pass question 4
@@ -71,17 +70,17 @@ module _ (text into : List ℕ) (comes : ComesOutAs text into) where
   read = read_sheet_to stored_steps text
 
   -- one that is refused as a sheet: nothing is printed but that refusal
-  pub refused_says : {r : Refusal} {step : ℕ} → read.outcome ≡ Refused r step → into ≡ outcome_text (Refused r step)
+  pub refused_says : {r : Refusal} {step : ℕ} → read.outcome ≡ refused_at r step → into ≡ outcome_text (refused_at r step)
   unfolding ComesOutAs
   refused_says {r} {step} e = go comes
     where
-      go : ComesOut read text into → into ≡ outcome_text (Refused r step)
+      go : ComesOut read text into → into ≡ outcome_text (refused_at r step)
       go (refused_sheet own is) = is ∙ ap outcome_text (sym own ∙ e)
       go (unaltered own short is) = absurd (accepted_not_refused (sym own ∙ e))
       go (refused_passage own long ends at is) = absurd (accepted_not_refused (sym own ∙ e))
       go (two_sheets own long split) = absurd (accepted_not_refused (sym own ∙ e))
 
-  module _ (accepted : read.outcome ≡ Accepted) where
+  module _ (accepted : read.outcome ≡ not_refused) where
     -- one with no more steps than a passage may have: unaltered
     pub short_says : read.sheet.head.steps ≤ most_steps → into ≡ text
     unfolding ComesOutAs
@@ -96,11 +95,11 @@ module _ (text into : List ℕ) (comes : ComesOutAs text into) where
     -- one with more: in two, or as the long passage's own refusal, at one of its first steps or, by question 4, at the step after them
     pub long_says : most_steps < read.sheet.head.steps →
         Split read.sheet into ⊎
-        ((r : Refusal) × ((step : ℕ) × (((run read.sheet).outcome ≡ Refused r step) × (((step ≤ most_steps) ⊎ ((r ≡ TooLarge) × (step ≡ suc most_steps))) × (into ≡ outcome_text (Refused r step))))))
+        ((r : Refusal) × ((step : ℕ) × (((run read.sheet).outcome ≡ refused_at r step) × (((step ≤ most_steps) ⊎ ((r ≡ TooLarge) × (step ≡ suc most_steps))) × (into ≡ outcome_text (refused_at r step))))))
     unfolding ComesOutAs
     long_says long = go comes
       where
-        go : ComesOut read text into → Split read.sheet into ⊎ ((r : Refusal) × ((step : ℕ) × (((run read.sheet).outcome ≡ Refused r step) × (((step ≤ most_steps) ⊎ ((r ≡ TooLarge) × (step ≡ suc most_steps))) × (into ≡ outcome_text (Refused r step))))))
+        go : ComesOut read text into → Split read.sheet into ⊎ ((r : Refusal) × ((step : ℕ) × (((run read.sheet).outcome ≡ refused_at r step) × (((step ≤ most_steps) ⊎ ((r ≡ TooLarge) × (step ≡ suc most_steps))) × (into ≡ outcome_text (refused_at r step))))))
         go (refused_sheet own is) = absurd (accepted_not_refused (sym accepted ∙ own))
         go (unaltered own short is) = absurd (omega (arith, long, short))
         go (refused_passage {r} {step} own more ends at is) = inr (r, (step, (ends, (at, is))))

@@ -1,5 +1,6 @@
 -- The conversion of a stored sheet: a long one comes out as two sheets, whose passages are together the long one; where only a refusal is printed, it
 -- is the long passage's own; any other text comes out as itself, or as the reader's refusal.
+use Rattle.std.specs.Prelude.{Ok, Err}
 use Prim.Native.Nat.{ℕ, suc, ◌+◌, ◌-◌, ◌≤◌, ◌<◌}
 use mathlib.Core.Logic.{inl, inr, ⊎_elim}
 use mathlib.Core.Path.{◌≡◌, refl, sym, ap, ap₂, subst, ◌∙◌}
@@ -9,7 +10,7 @@ use native.Mathlib.Omega.{arith}
 use borrow.Author.Tests.{le-leb, lt-leb}
 use lib.ListN.{length, get_or, length-map}
 use lib.Seq.{take_at}
-use Rattle.model.specs.Sheet.{most, most_steps, stored_steps, refused_step, passes, ask, in_range, steps_limits, start_limits, radius_limits, start_verdict, quantity_verdict, sheet_verdict_to, sheet_verdict, padded, quantities_held, starts_of}
+use Rattle.model.specs.Sheet.{Outcome, not_refused, refused_at, most, most_steps, stored_steps, refused_step, passes, ask, in_range, steps_limits, start_limits, radius_limits, start_verdict, quantity_verdict, sheet_verdict_to, sheet_verdict, padded, quantities_held, starts_of}
 use Rattle.laws.specs.ReadingMeans.{ZeroPastCounts}
 use Rattle.model.specs.Reading.{read_sheet_to, read_sheet}
 use Rattle.model.specs.Step.{no_ball, reach}
@@ -25,8 +26,6 @@ use Rattle.model.specs.declared.Sheet.{Sheet}
 use Rattle.model.specs.declared.ReadSheet.{ReadSheet}
 use Rattle.model.specs.declared.Refusal.{Refusal}
 use Rattle.model.specs.declared.Refusal.TheVariants.{TooLarge}
-use Rattle.model.specs.declared.Outcome.{Outcome}
-use Rattle.model.specs.declared.Outcome.TheVariants.{Accepted, Refused}
 use Rattle.laws.proofs.Text.Verdicts.{pass_then, natural_passes, signed_passes, in_range_lem, HeadInRange, SheetInRange, sheet_in_range, in_range_passes}
 use Rattle.laws.proofs.Passages.RowsOfPassage.{rows_of_run}
 use Rattle.ranges.proofs.Ranges.{before_or_past}
@@ -97,11 +96,11 @@ module _ (text : List ℕ) where
   second_sheet = second_part most_steps stored reached
 
   -- a text that is refused comes out as its refusal
-  pub refused_comes_out : {r : Refusal} {step : ℕ} → (read_sheet_to stored_steps text).outcome ≡ Refused r step → converted text ≡ outcome_text (Refused r step)
+  pub refused_comes_out : {r : Refusal} {step : ℕ} → (read_sheet_to stored_steps text).outcome ≡ refused_at r step → converted text ≡ outcome_text (refused_at r step)
   unfolding converted converted_by
   refused_comes_out e = rw (e, converted_by)
 
-  module _ (read : (read_sheet_to stored_steps text).outcome ≡ Accepted) where
+  module _ (read : (read_sheet_to stored_steps text).outcome ≡ not_refused) where
     -- a sheet that a passage takes comes out as itself
     pub short_comes_out : stored.head.steps ≤ most_steps → converted text ≡ text
     unfolding converted converted_by
@@ -120,13 +119,13 @@ module _ (text : List ℕ) where
       long_comes_out = rw (read, converted_by, lt-leb stored.head.steps most_steps long)
 
       -- a refusal in the first part is the long passage's own ..
-      pub refusal_is_own : {r : Refusal} {step : ℕ} → (run first_sheet).outcome ≡ Refused r step → (converted text ≡ outcome_text (Refused r step)) × ((run stored).outcome ≡ Refused r step)
+      pub refusal_is_own : {r : Refusal} {step : ℕ} → (run first_sheet).outcome ≡ refused_at r step → (converted text ≡ outcome_text (refused_at r step)) × ((run stored).outcome ≡ refused_at r step)
       unfolding split_text
       refusal_is_own e = (long_comes_out ∙ rw (e, split_text), rw (first_refusal_is_whole stored most_steps (omega arith) e) e)
 
-      module _ (accepted : (run first_sheet).outcome ≡ Accepted) where
+      module _ (accepted : (run first_sheet).outcome ≡ not_refused) where
         -- .. and so is that of the step after it
-        pub large_is_own : small reached ≡ false → (converted text ≡ outcome_text (Refused TooLarge (suc most_steps))) × ((run stored).outcome ≡ Refused TooLarge (suc most_steps))
+        pub large_is_own : small reached ≡ false → (converted text ≡ outcome_text (refused_at TooLarge (suc most_steps))) × ((run stored).outcome ≡ refused_at TooLarge (suc most_steps))
         unfolding split_text parts_text
         large_is_own large = (long_comes_out ∙ rw (accepted, split_text, large, parts_text), large_is_refused stored most_steps (omega arith) (omega arith) accepted long large)
 
@@ -138,10 +137,10 @@ module _ (text : List ℕ) where
           pub second_part_passes : sheet_verdict second_sheet ≡ passes
           second_part_passes = second_passes stored_steps most_steps most_steps stored acceptable.verdict reached long (omega arith) wide is_small
 
-          first_read : read_sheet (sheet_text first_sheet) ≡ record { outcome = Accepted; sheet = first_sheet }
+          first_read : read_sheet (sheet_text first_sheet) ≡ record { outcome = not_refused; sheet = first_sheet }
           first_read = read_printed most_steps first_sheet (omega arith) first_part_passes (first_zeros most_steps stored acceptable.zeros)
 
-          second_read : read_sheet (sheet_text second_sheet) ≡ record { outcome = Accepted; sheet = second_sheet }
+          second_read : read_sheet (sheet_text second_sheet) ≡ record { outcome = not_refused; sheet = second_sheet }
           second_read = read_printed most_steps second_sheet (omega arith) second_part_passes (second_zeros most_steps stored reached wide acceptable.zeros)
 
           -- a long sheet comes out as two, whose passages are together its own
@@ -175,22 +174,22 @@ pub comes_out : (text : List ℕ) → ComesOutAs text (converted text)
 unfolding ComesOutAs
 comes_out text = go (read_sheet_to stored_steps text).outcome refl
   where
-    by_size : (read_sheet_to stored_steps text).outcome ≡ Accepted → most_steps < (stored text).head.steps → (run (first_sheet text)).outcome ≡ Accepted → (b : Bool) → small (reached text) ≡ b → ComesOut (read_sheet_to stored_steps text) text (converted text)
+    by_size : (read_sheet_to stored_steps text).outcome ≡ not_refused → most_steps < (stored text).head.steps → (run (first_sheet text)).outcome ≡ not_refused → (b : Bool) → small (reached text) ≡ b → ComesOut (read_sheet_to stored_steps text) text (converted text)
     by_size read long accepted true e = two_sheets read long (conversion_keeps_rows text read long accepted e)
     by_size read long accepted false e =
         let own = large_is_own text read long accepted e in
         refused_passage read long own.1 (inr (refl, refl)) own.0
 
-    by_run : (read_sheet_to stored_steps text).outcome ≡ Accepted → most_steps < (stored text).head.steps → (outcome : Outcome) → (run (first_sheet text)).outcome ≡ outcome → ComesOut (read_sheet_to stored_steps text) text (converted text)
-    by_run read long Accepted e = by_size read long e (small (reached text)) refl
-    by_run read long (Refused r step) e =
+    by_run : (read_sheet_to stored_steps text).outcome ≡ not_refused → most_steps < (stored text).head.steps → (outcome : Outcome) → (run (first_sheet text)).outcome ≡ outcome → ComesOut (read_sheet_to stored_steps text) text (converted text)
+    by_run read long (Ok done) e = by_size read long e (small (reached text)) refl
+    by_run read long (Err refused) e =
         let own = refusal_is_own text read long e in
         refused_passage read long own.1 (inl (first_refused (rows_of_run (first_sheet text)).refused_at e)) own.0
       where
-        first_refused : refused_step (run (first_sheet text)).outcome ≤ (first_sheet text).head.steps → (run (first_sheet text)).outcome ≡ Refused r step → step ≤ most_steps
+        first_refused : refused_step (run (first_sheet text)).outcome ≤ (first_sheet text).head.steps → (run (first_sheet text)).outcome ≡ Err refused → refused.step ≤ most_steps
         first_refused h e = unfold refused_step first_part with_steps in omega (arith, rw e at h)
 
     go : (outcome : Outcome) → (read_sheet_to stored_steps text).outcome ≡ outcome → ComesOut (read_sheet_to stored_steps text) text (converted text)
-    go (Refused r step) e = refused_sheet e (refused_comes_out text e)
-    go Accepted e =
+    go (Err refused) e = refused_sheet e (refused_comes_out text e)
+    go (Ok done) e =
         ⊎_elim (λ (long : most_steps < (stored text).head.steps). by_run e long (run (first_sheet text)).outcome refl) (λ (short : (stored text).head.steps ≤ most_steps). unaltered e short (short_comes_out text e short)) (before_or_past most_steps (stored text).head.steps)

@@ -1,27 +1,25 @@
 -- A text that is read is the text of the sheet that it is read as, byte by byte: so each sheet has one text, and the reader takes no other. With `read_printed`
 -- this says which texts are accepted.
+use Rattle.std.specs.Prelude.{Option, Some, None}
 use Prim.Native.Nat.{ℕ, zero, suc, ◌+◌, ◌-◌, ◌*◌, ◌/◌, ◌%◌, ◌<◌}
 use Prim.Native.Char.{code}
 use Prim.Native.String.{String}
 use mathlib.Core.Path.{◌≡◌, refl, sym, ap, ap₂, ◌∙◌}
 use mathlib.Core.Bool.{Bool, true, false}
 use mathlib.Core.List.{List, [], ◌∷◌, ◌++◌, map, flatten, append_assoc, append-nil}
-use mathlib.Core.Option.{Option, some, none}
 use native.Mathlib.Omega.{arith}
 use borrow.Author.Tests.{eqb-true, eqb-false}
 use lib.Dec.{leb, eqb}
 use lib.IntN.{ℤ, pos, negsuc, nat_abs}
 use lib.ListN.{length, get_or, replicate, length-append, length-map, get_or-append, get_or-map}
 use Rattle.ranges.specs.Range.{bytes, tabulate}
-use Rattle.model.specs.Sheet.{most_bytes, most_digits, most_quantities, most_terms, padded, quantities_held, terms_held, no_quantity, no_term, n_limits, steps_limits, tail_limits, tol_limits, start_limits, radius_limits, terms_limits, to_limits, coef_limits, first_limits, second_limits}
+use Rattle.model.specs.Sheet.{not_refused, most_bytes, most_digits, most_quantities, most_terms, padded, quantities_held, terms_held, no_quantity, no_term, n_limits, steps_limits, tail_limits, tol_limits, start_limits, radius_limits, terms_limits, to_limits, coef_limits, first_limits, second_limits}
 use Rattle.model.specs.Reading.{Spelled, spelled, wrong, is_digit, digits, natural, negated, signed, after, line, Parsed, parsed, fault, Parser, return, ◌>>=◌, times, ranged, field, signed_field, end, body, accepted, read_sheet_to}
 use Rattle.model.specs.Reading as reading
 use Rattle.model.specs.Answer.{digit, decimal, printed}
 use Rattle.stored.specs.Conversion.{head_text, start_text, quantity_text, term_text, sheet_text}
 use Rattle.model.specs.declared.Limits.{Limits}
-use Rattle.model.specs.declared.Start.TheVariants.{Reading}
 use Rattle.model.specs.declared.Sheet.{Sheet}
-use Rattle.model.specs.declared.Outcome.TheVariants.{Accepted}
 use Rattle.model.specs.declared.Refusal.TheVariants.{Oversized, OutOfRange, NoReading}
 use Rattle.ranges.proofs.Ranges.{tabulate_is}
 use Rattle.laws.proofs.Text.DecimalText.{decimal_digit, decimal_digits, digit_range}
@@ -195,9 +193,9 @@ start_comes : Prints reading.start start_text
 unfolding reading.start
 start_comes text start rest e = go (after (bytes "start=none\n") text) e
   where
-    go : (x : Option (List ℕ)) → elim x [ some rest ↦ fault NoReading | none ↦ (signed_field "start" start_limits >>= λ z. return (Reading z)) text ] ≡ parsed start rest → Front text (start_text start) rest
-    go (some left) e = absurd (let z : ◌≡◌ {A = ℕ} 0 1 = cc in omega arith)
-    go none e =
+    go : (x : Option (List ℕ)) → elim x [ Some rest ↦ fault NoReading | None ↦ (signed_field "start" start_limits >>= λ z. return (Some z)) text ] ≡ parsed start rest → Front text (start_text start) rest
+    go (Some left) e = absurd (let z : ◌≡◌ {A = ℕ} 0 1 = cc in omega arith)
+    go None e =
         let z = then_comes _ _ text e in
         let last = return_comes _ _ z.second in
         returned start_text last (unfold start_text in signed_field_comes "start" start_limits text _ _ z.first)
@@ -300,15 +298,15 @@ sheet_comes high text {sheet} {rest} e =
     parts_come (record { head = head.a; quantities = quantities.a; terms = terms.a }) behind (both (both (head_comes high text _ _ head.first) (quantities_come _ head.left _ _ quantities.first)) (terms_come _ quantities.left _ _ terms.first)) ∙ ap sheet_text (end_comes _ terms.left terms.second)
 
 -- what is read as a sheet is the sheet's text
-pub text_is_printed : (high : ℕ) (text : List ℕ) → (read_sheet_to high text).outcome ≡ Accepted → text ≡ sheet_text (read_sheet_to high text).sheet
+pub text_is_printed : (high : ℕ) (text : List ℕ) → (read_sheet_to high text).outcome ≡ not_refused → text ≡ sheet_text (read_sheet_to high text).sheet
 unfolding read_sheet_to accepted
 text_is_printed high text = go (leb (length text) most_bytes) (reading.sheet high text) refl
   where
-    go : (fits : Bool) (x : Parsed Sheet) → reading.sheet high text ≡ x → (accepted (elim fits [ true ↦ x | false ↦ fault Oversized ])).outcome ≡ Accepted → text ≡ sheet_text (accepted (elim fits [ true ↦ x | false ↦ fault Oversized ])).sheet
+    go : (fits : Bool) (x : Parsed Sheet) → reading.sheet high text ≡ x → (accepted (elim fits [ true ↦ x | false ↦ fault Oversized ])).outcome ≡ not_refused → text ≡ sheet_text (accepted (elim fits [ true ↦ x | false ↦ fault Oversized ])).sheet
     go true (parsed sheet rest) came e = sheet_comes high text came
     go true (fault r) came e = absurd (let z : ◌≡◌ {A = ℕ} 0 1 = cc in omega arith)
     go false x came e = absurd (let z : ◌≡◌ {A = ℕ} 0 1 = cc in omega arith)
 
 -- so two texts that are read as one sheet are one text
-pub one_text : (high : ℕ) (text other : List ℕ) → (read_sheet_to high text).outcome ≡ Accepted → (read_sheet_to high other).outcome ≡ Accepted → (read_sheet_to high text).sheet ≡ (read_sheet_to high other).sheet → text ≡ other
+pub one_text : (high : ℕ) (text other : List ℕ) → (read_sheet_to high text).outcome ≡ not_refused → (read_sheet_to high other).outcome ≡ not_refused → (read_sheet_to high text).sheet ≡ (read_sheet_to high other).sheet → text ≡ other
 one_text high text other e f same = text_is_printed high text e ∙ ap sheet_text same ∙ sym (text_is_printed high other f)

@@ -9,7 +9,7 @@ use native.Mathlib.Numerals.{add-one, one-add}
 use native.Mathlib.Omega.{arith}
 use lib.IntN.{ℤ}
 use lib.ListN.{length, get_or, length-map, get_or-append, get_or-map}
-use Rattle.model.specs.Sheet.{terms_of, start_ball, start_value, starts_of, no_quantity, padded, quantities_held}
+use Rattle.model.specs.Sheet.{not_refused, refused_at, terms_of, start_ball, start_value, starts_of, no_quantity, padded, quantities_held}
 use Rattle.model.specs.LikeTerms.{gathered}
 use Rattle.model.specs.Step.{no_ball, Row, no_row}
 use Rattle.model.specs.declared.Ball.{Ball}
@@ -19,13 +19,12 @@ use Rattle.model.specs.declared.Term.{Term}
 use Rattle.model.specs.declared.Sheet.{Sheet}
 use Rattle.model.specs.declared.Refusal.{Refusal}
 use Rattle.model.specs.declared.Refusal.TheVariants.{TooLarge}
-use Rattle.model.specs.declared.Outcome.TheVariants.{Accepted, Refused}
 use Rattle.ranges.proofs.Ranges.{tabulate_is}
 use Rattle.ranges.proofs.Lists.{each_at}
 use Rattle.laws.proofs.Passages.RowsOfPassage.{rows_of_run}
 use Rattle.laws.proofs.Passages.UnderWay.{after}
 
-pub accepted_not_refused : {r : Refusal} {step : ℕ} → Accepted ≡ Refused r step → ⊥
+pub accepted_not_refused : {r : Refusal} {step : ℕ} → not_refused ≡ refused_at r step → ⊥
 accepted_not_refused e = let z : ◌≡◌ {A = ℕ} 0 1 = cc in omega arith
 
 -- the same rows, and a refusal so many steps later
@@ -67,24 +66,24 @@ module _ (terms : List Term) (H : ℤ) (limit tol : ℕ) where
       go (stops r) same = unfold go_on refused later in refl
 
   -- where the first steps are all taken, the others follow from the values and radii that these lead to ..
-  pub follow_parts : (first second step : ℕ) (balls : List Ball) → (follow terms H limit tol first step balls).outcome ≡ Accepted → let rows = (follow terms H limit tol first step balls).rows in follow terms H limit tol (first + second) step balls ≡ after rows (follow terms H limit tol second (step + first) (reached balls rows))
+  pub follow_parts : (first second step : ℕ) (balls : List Ball) → (follow terms H limit tol first step balls).outcome ≡ not_refused → let rows = (follow terms H limit tol first step balls).rows in follow terms H limit tol (first + second) step balls ≡ after rows (follow terms H limit tol second (step + first) (reached balls rows))
   unfolding follow after reached
   follow_parts zero second step balls e = rw (zero-add second, add-zero step)
   follow_parts (suc first) second step balls e =
       rw (suc-add first second, add-suc step first) (go (advance terms H limit tol balls) (λ row e. rw (suc-add step first) at (follow_parts first second (suc step) row.balls e)) e)
     where
-      go : (next : Advance) → ((row : Row) → (steps first (suc step) row.balls).outcome ≡ Accepted → let rows = (steps first (suc step) row.balls).rows in steps (first + second) (suc step) row.balls ≡ after rows (steps second (suc (step + first)) (reached row.balls rows))) → let run = go_on next step (λ row. steps first (suc step) row.balls) in run.outcome ≡ Accepted → go_on next step (λ row. steps (first + second) (suc step) row.balls) ≡ after run.rows (steps second (suc (step + first)) (reached balls run.rows))
+      go : (next : Advance) → ((row : Row) → (steps first (suc step) row.balls).outcome ≡ not_refused → let rows = (steps first (suc step) row.balls).rows in steps (first + second) (suc step) row.balls ≡ after rows (steps second (suc (step + first)) (reached row.balls rows))) → let run = go_on next step (λ row. steps first (suc step) row.balls) in run.outcome ≡ not_refused → go_on next step (λ row. steps (first + second) (suc step) row.balls) ≡ after run.rows (steps second (suc (step + first)) (reached balls run.rows))
       go (moves row) same e = unfold go_on after reached in ap (after (row ∷ [])) (same row e)
       go (stops r) same e = unfold go_on refused in absurd (accepted_not_refused (sym e))
 
   -- .. and where one of them is refused, none follows
-  pub follow_refused : (first second step : ℕ) (balls : List Ball) {r : Refusal} {at : ℕ} → (follow terms H limit tol first step balls).outcome ≡ Refused r at → follow terms H limit tol (first + second) step balls ≡ follow terms H limit tol first step balls
+  pub follow_refused : (first second step : ℕ) (balls : List Ball) {r : Refusal} {at : ℕ} → (follow terms H limit tol first step balls).outcome ≡ refused_at r at → follow terms H limit tol (first + second) step balls ≡ follow terms H limit tol first step balls
   unfolding follow after
   follow_refused zero second step balls e = absurd (accepted_not_refused e)
   follow_refused (suc first) second step balls {r} {at} e =
       rw (suc-add first second) (go (advance terms H limit tol balls) (λ row e. follow_refused first second (suc step) row.balls e) e)
     where
-      go : (next : Advance) → ((row : Row) → (steps first (suc step) row.balls).outcome ≡ Refused r at → steps (first + second) (suc step) row.balls ≡ steps first (suc step) row.balls) → (go_on next step (λ row. steps first (suc step) row.balls)).outcome ≡ Refused r at → go_on next step (λ row. steps (first + second) (suc step) row.balls) ≡ go_on next step (λ row. steps first (suc step) row.balls)
+      go : (next : Advance) → ((row : Row) → (steps first (suc step) row.balls).outcome ≡ refused_at r at → steps (first + second) (suc step) row.balls ≡ steps first (suc step) row.balls) → (go_on next step (λ row. steps first (suc step) row.balls)).outcome ≡ refused_at r at → go_on next step (λ row. steps (first + second) (suc step) row.balls) ≡ go_on next step (λ row. steps first (suc step) row.balls)
       go (moves row) same e = unfold go_on after in ap (after (row ∷ [])) (same row e)
       go (stops r) same e = unfold go_on in refl
 
@@ -112,11 +111,11 @@ module _ (sheet : Sheet) (count : ℕ) (few : count ≤ sheet.head.steps) where
   all_steps = ap (λ (left : ℕ). steps_of left 1 (starts_of sheet)) (sym (add-sub_of_le few))
 
   -- a refusal of the first part is the passage's own
-  pub first_refusal_is_whole : {r : Refusal} {step : ℕ} → (run (first_part count sheet)).outcome ≡ Refused r step → run sheet ≡ run (first_part count sheet)
+  pub first_refusal_is_whole : {r : Refusal} {step : ℕ} → (run (first_part count sheet)).outcome ≡ refused_at r step → run sheet ≡ run (first_part count sheet)
   unfolding run first_part with_steps terms_of starts_of
   first_refusal_is_whole e = all_steps ∙ follow_refused _ _ _ _ count (sheet.head.steps - count) 1 (starts_of sheet) e
 
-  module _ (some : 0 < count) (accepted : (run (first_part count sheet)).outcome ≡ Accepted) where
+  module _ (some : 0 < count) (accepted : (run (first_part count sheet)).outcome ≡ not_refused) where
     first_count : length (run (first_part count sheet)).rows ≡ count
     unfolding first_part with_steps rows_written
     first_count = rw accepted at (rows_of_run (first_part count sheet)).count
@@ -143,7 +142,7 @@ module _ (sheet : Sheet) (count : ℕ) (few : count ≤ sheet.head.steps) where
     parts_are_whole = left_follow ∙ ap (after (run (first_part count sheet)).rows) second_later
 
     -- where the last row is too large to go on from, the step after the first part is refused
-    pub large_is_refused : count < sheet.head.steps → small (last_balls (run (first_part count sheet)).rows) ≡ false → (run sheet).outcome ≡ Refused TooLarge (suc count)
+    pub large_is_refused : count < sheet.head.steps → small (last_balls (run (first_part count sheet)).rows) ≡ false → (run sheet).outcome ≡ refused_at TooLarge (suc count)
     unfolding follow advance question go_on refused after
     large_is_refused more large = rw (left_follow, one_more, large, question)
       where

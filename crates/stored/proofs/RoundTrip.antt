@@ -1,11 +1,11 @@
 -- A sheet's text is read back as the sheet: a number by its digits, a line, the fields one after another, and few enough bytes in all.
+use Rattle.std.specs.Prelude.{Option, Some, None}
 use Prim.Native.Nat.{ℕ, zero, suc, ◌+◌, ◌-◌, ◌*◌, ◌^◌, ◌≤◌, ◌<◌}
 use Prim.Native.Char.{code}
 use Prim.Native.String.{String}
 use mathlib.Core.Path.{◌≡◌, refl, sym, ap, ◌∙◌}
 use mathlib.Core.Bool.{true, false, false≢true}
 use mathlib.Core.List.{List, [], ◌∷◌, ◌++◌, flatten, append_assoc, append-nil}
-use mathlib.Core.Option.{none}
 use native.Mathlib.Nat.{zero-add, suc-mul}
 use native.Mathlib.Omega.{arith}
 use borrow.Author.Tests.{le-leb, ne_eqb}
@@ -13,7 +13,7 @@ use lib.IntN.{ℤ, pos, negsuc, nat_abs}
 use lib.ListN.{length, get_or, take, length-append, length-replicate, replicate}
 use lib.Seq.{length-take-le, get_or-take}
 use Rattle.ranges.specs.Range.{bytes, tabulate}
-use Rattle.model.specs.Sheet.{most, scale, most_bytes, most_digits, most_quantities, most_terms, most_coef, Verdict, passes, in_range, step_verdict, start_verdict, quantity_verdict, sheet_verdict_to, no_quantity, no_term, padded, quantities_held, terms_held, n_limits, steps_limits, tail_limits, tol_limits, start_limits, radius_limits, terms_limits, to_limits, coef_limits, first_limits, second_limits}
+use Rattle.model.specs.Sheet.{not_refused, most, scale, most_bytes, most_digits, most_quantities, most_terms, most_coef, Verdict, passes, in_range, step_verdict, start_verdict, quantity_verdict, sheet_verdict_to, no_quantity, no_term, padded, quantities_held, terms_held, n_limits, steps_limits, tail_limits, tol_limits, start_limits, radius_limits, terms_limits, to_limits, coef_limits, first_limits, second_limits}
 use Rattle.laws.specs.ReadingMeans.{ZeroPastCounts}
 use Rattle.model.specs.declared.Limits.{Limits}
 use Rattle.model.specs.Reading.{Spelled, spelled, is_digit, digits, natural, negated, signed, after, ended, line, Parsed, parsed, fault, Parser, return, ◌>>=◌, times, field, signed_field, end, body, accepted, read_sheet_to}
@@ -21,12 +21,9 @@ use Rattle.model.specs.Reading as reading
 use Rattle.model.specs.Answer.{digit, decimal_by, decimal, printed}
 use Rattle.stored.specs.Conversion.{head_text, start_text, quantity_text, term_text, sheet_text}
 use Rattle.model.specs.declared.Head.{Head}
-use Rattle.model.specs.declared.Start.{Start}
-use Rattle.model.specs.declared.Start.TheVariants.{Reading, Missing}
 use Rattle.model.specs.declared.Quantity.{Quantity}
 use Rattle.model.specs.declared.Term.{Term}
 use Rattle.model.specs.declared.Sheet.{Sheet}
-use Rattle.model.specs.declared.Outcome.TheVariants.{Accepted}
 use Rattle.ranges.proofs.Ranges.{below, tabulate_is}
 use Rattle.laws.proofs.Text.DecimalText.{spells, Digits, text_spells_number, text_is_digits, length_below, length_signed, length_printed}
 use Rattle.laws.proofs.Text.Verdicts.{refusal_not_passes, both_pass, in_range_lem, signed_magnitude, step_in_range, TermInRange, HeadInRange, SheetInRange, sheet_in_range}
@@ -72,11 +69,11 @@ signed_read (pos n) {b} rest few other = go (decimal (pos n)) (text_is_digits n 
 signed_read (negsuc n) rest few other = ap negated (natural_read_lem (suc n) rest few other)
 
 -- no number begins as `none` does
-no_number_none : (z : ℤ) (rest : List ℕ) → after (bytes "none\n") (decimal z ++ rest) ≡ none
+no_number_none : (z : ℤ) (rest : List ℕ) → after (bytes "none\n") (decimal z ++ rest) ≡ None
 unfolding after bytes decimal
 no_number_none (pos n) rest = go (decimal (pos n)) (text_is_digits n n (omega arith))
   where
-    go : (text : List ℕ) → Digits n text → after (bytes "none\n") (text ++ rest) ≡ none
+    go : (text : List ℕ) → Digits n text → after (bytes "none\n") (text ++ rest) ≡ None
     go [] are = absurd (omega (arith, are.some))
     go (d ∷ text) are = unfold after bytes is_digit in rw (ne_eqb (code "n") d (λ same. differs (are.digits 0 (omega arith)) refl (sym same)), after)
 no_number_none (negsuc n) rest = refl
@@ -169,19 +166,19 @@ head_read high head few range =
     (reads_then _ (field_read "tail" tail_limits head.tail (omega (arith, in_range_lem head.tail range.tail)) range.tail)
     (reads_last _ (field_read "tol" tol_limits head.tol (omega (arith, in_range_lem head.tol range.tol)) range.tol))))))
 
-start_read : (start : Start) → start_verdict start ≡ passes → Reads reading.start 17 (start_text start) start
+start_read : (start : Option ℤ) → start_verdict start ≡ passes → Reads reading.start 17 (start_text start) start
 unfolding start_verdict start_text
-start_read (Reading z) passed = record { on = on; short = read.short }
+start_read (Some z) passed = record { on = on; short = read.short }
   where
-    read : Reads (signed_field "start" start_limits >>= λ z. return (Reading z)) 17 (printed "start" z) (Reading z)
+    read : Reads (signed_field "start" start_limits >>= λ z. return (Some z)) 17 (printed "start" z) (Some z)
     read = unfold start_limits most bytes in reads_last _ (signed_field_read "start" start_limits z (omega (arith, signed_magnitude most z passed)) passed)
 
-    no_none : (rest : List ℕ) → after (bytes "start=none\n") (printed "start" z ++ rest) ≡ none
+    no_none : (rest : List ℕ) → after (bytes "start=none\n") (printed "start" z ++ rest) ≡ None
     no_none rest = rw (key_apart "start" z rest) (unfold after bytes in no_number_none z (code "\n" ∷ rest))
 
-    on : (rest : List ℕ) → reading.start (printed "start" z ++ rest) ≡ parsed (Reading z) rest
+    on : (rest : List ℕ) → reading.start (printed "start" z ++ rest) ≡ parsed (Some z) rest
     on rest = unfold reading.start in rw (no_none rest, reading.start) (read.on rest)
-start_read Missing passed = absurd (refusal_not_passes passed)
+start_read None passed = absurd (refusal_not_passes passed)
 
 quantity_read : (quantity : Quantity) → quantity_verdict quantity ≡ passes → Reads reading.quantity 35 (quantity_text quantity) quantity
 unfolding reading.quantity quantity_text quantity_verdict radius_limits most bytes
@@ -237,7 +234,7 @@ module _ (high : ℕ) (sheet : Sheet) (few : high < 10 ^ most_digits) (passed : 
       (reads_last (terms_held sheet.terms.count) (reads_times sheet.terms.count _ _ (λ j h. term_read sheet.head.n (get_or sheet.terms.list j no_term) n_high (ranges.term j h)))))
 
   -- the texts of the parts, one after another; the last two are those of the terms
-  parts_read : (a b c d : List ℕ) → Reads (reading.head high) 77 a sheet.head → Reads (reading.quantities sheet.head.n) (sheet.head.n * 35) b sheet.quantities → Reads (reading.terms sheet.head.n) (17 + sheet.terms.count * 65) (c ++ d) sheet.terms → read_sheet_to high (a ++ b ++ c ++ d) ≡ record { outcome = Accepted; sheet = sheet }
+  parts_read : (a b c d : List ℕ) → Reads (reading.head high) 77 a sheet.head → Reads (reading.quantities sheet.head.n) (sheet.head.n * 35) b sheet.quantities → Reads (reading.terms sheet.head.n) (17 + sheet.terms.count * 65) (c ++ d) sheet.terms → read_sheet_to high (a ++ b ++ c ++ d) ≡ record { outcome = not_refused; sheet = sheet }
   unfolding read_sheet_to accepted reading.sheet body end
   parts_read a b c d head quantities terms =
       rw (le-leb (length (a ++ b ++ c ++ d)) most_bytes short, together, ← append-nil (c ++ d)) (ap accepted (then_on _ _ (a ++ (b ++ (c ++ d ++ []))) (head.on _) ∙ then_on _ _ (b ++ (c ++ d ++ [])) (quantities.on _) ∙ then_on _ _ (c ++ d ++ []) (terms.on [])))
@@ -249,6 +246,6 @@ module _ (high : ℕ) (sheet : Sheet) (few : high < 10 ^ most_digits) (passed : 
       short = omega (arith, ap length together, length-append a (b ++ (c ++ d)), length-append b (c ++ d), head.short, quantities.short, terms.short, n_high, count_high)
 
   -- what is printed for a sheet is read as the sheet
-  pub read_printed : read_sheet_to high (sheet_text sheet) ≡ record { outcome = Accepted; sheet = sheet }
+  pub read_printed : read_sheet_to high (sheet_text sheet) ≡ record { outcome = not_refused; sheet = sheet }
   unfolding sheet_text
   read_printed = parts_read _ _ _ _ (head_read high sheet.head few ranges.head) quantities_read terms_read

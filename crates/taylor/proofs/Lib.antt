@@ -1,3 +1,4 @@
 mod StepRow
+mod EveryBall
 pub mod Answers
 pub mod AnswerInWords

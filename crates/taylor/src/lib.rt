@@ -3,4 +3,4 @@
 
 mod step;
 
-pub use step::{Advance, Numbers, Stepped, small, stopped, take_step};
+pub use step::{Numbers, Stepped, small, stopped, take_step};

@@ -2,13 +2,14 @@
 use Prim.Native.Nat.{ℕ, zero, suc, ◌*◌, ◌^◌, ◌<◌}
 use mathlib.Core.Bool.{Bool, true, false, ◌&&◌}
 use mathlib.Core.List.{List, [], ◌∷◌}
-use mathlib.Core.Path.{◌≡◌, sym, ◌∙◌}
+use mathlib.Core.Path.{◌≡◌, refl, sym, ◌∙◌}
 use native.Mathlib.Nat.{pow-suc}
 use native.Mathlib.Omega.{arith}
 use lib.Dec.{T, eqb, eqb→eq}
 use lib.ListN.{length, get_or}
 use lib.Seq.{ext_get_or}
 use Rattle.tens.specs.Tens.{entries, PowersOfTen}
+use Rattle.tens.specs.declared.TheConstants.{TENS}
 
 -- ---- what follows from the rule
 
@@ -44,3 +45,8 @@ tenfold_at (x ∷ y ∷ table) t (suc k) h = tenfold_at (y ∷ table) (both (eqb
 
 pub rule_by_test : {table : List ℕ} → length table ≡ entries → get_or table 0 0 ≡ 1 → T (tenfold table) → PowersOfTen table
 rule_by_test {table} count first t = record { count = count; first = first; next = λ k h. tenfold_at table t k (omega (arith, count)) }
+
+-- the code's table has it
+pub table_rule : PowersOfTen TENS
+unfolding tenfold
+table_rule = rule_by_test refl refl tt

@@ -2,11 +2,12 @@
 #![tactic(auto)]
 
 ghost use Rattle.std.specs.Prelude.{◌^◌, ◌<◌, ◌≡◌};
-ghost use Rattle.tens.specs.Tens.{entries, PowersOfTen};
+ghost use Rattle.tens.specs.Tens.{entries};
 
 // How many there are.
 pub const ENTRIES: usize = 10;
 
+// The table. It has the rule of specs/Tens.antt (`table_rule` of proofs/Tens.antt).
 const TENS: [u32; ENTRIES] = [
     1,
     10,
@@ -20,18 +21,10 @@ const TENS: [u32; ENTRIES] = [
     1_000_000_000,
 ];
 
-// The table.
-fn table() -> [u32; ENTRIES]
-    ensures { PowersOfTen result }
-{
-    TENS
-}
-
 // 10^k, for every k that the table has.
 pub fn power_of_ten(k: usize) -> u32
     requires { k < entries }
     ensures { result ≡ 10 ^ k }
 {
-    let table = table();
-    table[k]
+    TENS[k]
 }

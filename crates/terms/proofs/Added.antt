@@ -1,11 +1,17 @@
 -- Like terms summed one after the other: each is added to the first that it is like, or else stands behind them all.
-use Prim.Native.Nat.{ℕ, zero, suc, ◌<◌}
+use Prim.Native.Nat.{ℕ, zero, suc, ◌≤◌, ◌<◌}
 use mathlib.Core.Bool.{Bool, true, false, not, cond}
 use mathlib.Core.List.{List, [], ◌∷◌, ◌++◌}
 use mathlib.Core.Path.{◌≡◌, refl, sym, ap, ap₂, ◌∙◌}
 use native.Mathlib.Omega.{arith}
 use lib.IntN.{ℤ, pos, ◌+ℤ◌, +ℤ_idl, +ℤ_idr, +ℤ_assoc}
 use lib.ListN.{length, get_or, set}
+use lib.Dec.{ltb}
+use borrow.Author.Tests.{ltb-false}
+use Rattle.std.proofs.Common.{Some, None}
+use Rattle.std.specs.List.{position, position_or_len}
+use Rattle.std.proofs.lemmas.List.Quantifiers.{position-Some}
+use Rattle.std.proofs.lemmas.List.Sums.{fails_before_first}
 use Rattle.model.specs.Sheet.{no_term}
 use Rattle.model.specs.LikeTerms.{like, coefs_like, filter, summed}
 use Rattle.model.specs.declared.Term.{Term}
@@ -36,6 +42,24 @@ pub added_behind : (us : List Term) (t : Term) → ((k : ℕ) → k < length us 
 added_behind [] t none = unfold added in refl
 added_behind (u ∷ us) t none =
     added_by u us t false (none 0 (omega arith)) ∙ ap (λ (rest : List Term). u ∷ rest) (added_behind us t (λ k l. none (suc k) (omega arith)))
+
+-- as `position` gives the place: it is one of theirs, and there is none
+found_at : (us : List Term) (t : Term) (i : ℕ) → Some i ≡ position (λ u. like u t) us → (i < length us) × (like (get_or us i no_term) t ≡ true) × ((k : ℕ) → k < i → like (get_or us k no_term) t ≡ false)
+found_at us t i e = position-Some (λ u. like u t) us i no_term (sym e)
+
+pub found_below : (us : List Term) (t : Term) (i : ℕ) → Some i ≡ position (λ u. like u t) us → i < length us
+found_below us t i e = (found_at us t i e).0
+
+pub added_found : (us : List Term) (t : Term) (i : ℕ) → Some i ≡ position (λ u. like u t) us → added us t ≡ set us i (with_coef (get_or us i no_term) ((get_or us i no_term).coef +ℤ t.coef))
+added_found us t i e = let at = found_at us t i e in added_to us t i at.0 at.2 at.1
+
+pub added_none : (us : List Term) (t : Term) → None ≡ position (λ u. like u t) us → added us t ≡ us ++ (t ∷ [])
+added_none us t e =
+    added_behind us t (λ k h. fails_before_first (λ u. like u t) us k no_term (omega (arith, past (ltb (position_or_len (λ u. like u t) us) (length us)) refl e)))
+  where
+    past : (b : Bool) → ltb (position_or_len (λ u. like u t) us) (length us) ≡ b → None ≡ cond b (Some (position_or_len (λ u. like u t) us)) None → length us ≤ position_or_len (λ u. like u t) us
+    past true is h = cc
+    past false is h = ltb-false _ _ is
 
 -- ---- it is the sum with one term more
 

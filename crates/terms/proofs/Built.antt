@@ -5,16 +5,15 @@ use mathlib.Core.Path.{◌≡◌, refl, sym, ap, ◌∙◌}
 use native.Mathlib.Numerals.{add-one}
 use native.Mathlib.Omega.{arith}
 use lib.ListN.{length, get_or, set, take, replicate, length-set, length-replicate}
-use lib.Seq.{get_or-take, length-take-le, take-suc, take-set-le, take-set-lt, take-suc-set}
+use lib.Seq.{get_or-take, length-take-le, take-suc, take-set-lt, take-suc-set}
 use Rattle.ranges.specs.Range.{tabulate}
 use Rattle.model.specs.Sheet.{most_terms, no_term, listed}
 use Rattle.model.specs.declared.Term.{Term}
 use Rattle.ranges.proofs.Ranges.{tabulate_is}
 
 -- the first j terms and the next one
-pub taken_more : (terms : List Term) (j : ℕ) (term : Term) → j < length terms → term ≡ get_or terms j no_term → take (j + 1) terms ≡ take j terms ++ (term ∷ [])
-taken_more terms j term h is =
-    ap (λ (k : ℕ). take k terms) (add-one j) ∙ take-suc terms j no_term h ∙ ap (λ (t : Term). take j terms ++ (t ∷ [])) (sym is)
+pub taken_more : (terms : List Term) (j : ℕ) → j < length terms → take (j + 1) terms ≡ take j terms ++ (get_or terms j no_term ∷ [])
+taken_more terms j h = ap (λ (k : ℕ). take k terms) (add-one j) ∙ take-suc terms j no_term h
 
 -- so many terms of an array
 abbrev pub front : ℕ → List Term → List Term
@@ -34,7 +33,7 @@ unfolding listed tabulate
 built_none t = record { are = refl; long = length-replicate most_terms t }
 
 module _ {terms : List Term} {count : ℕ} {list : List Term} (few : count ≤ most_terms) (built : Built terms count list) where
-  taken : take count list ≡ terms
+  pub taken : take count list ≡ terms
   taken = sym (front_is count list (omega (arith, built.long))) ∙ built.are
 
   pub built_length : length terms ≡ count
@@ -48,14 +47,6 @@ module _ {terms : List Term} {count : ℕ} {list : List Term} (few : count ≤ m
       record {
         are = front_is count (set list i t) (omega (arith, built.long, length-set list i t)) ∙ take-set-lt count list i t h ∙ ap (λ (l : List Term). set l i t) taken;
         long = length-set list i t ∙ built.long;
-      }
-
-  -- what is put past them is not one of them
-  pub built_past : (t : Term) → Built terms count (set list count t)
-  built_past t =
-      record {
-        are = front_is count (set list count t) (omega (arith, built.long, length-set list count t)) ∙ take-set-le count list count t (omega arith) ∙ taken;
-        long = length-set list count t ∙ built.long;
       }
 
   pub built_more : (t : Term) → count < most_terms → Built (terms ++ (t ∷ [])) (count + 1) (set list count t)

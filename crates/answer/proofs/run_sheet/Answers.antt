@@ -2,8 +2,8 @@
 use Rattle.answer.proofs.Answered.{ran_refused, ran_accepted}
 use Rattle.answer.proofs.run_sheet.Goals as goal
 
-pub returns-in-Refused : goal.returns-in-Refused
-returns-in-Refused c = ran_refused c.args.sheet.now c.read-reading.ensures.whole c.args.rows.now c.in-Refused.is
+pub returns-in-Err : goal.returns-in-Err
+returns-in-Err c = ran_refused c.args.sheet.now c.read-reading.ensures.whole c.args.rows.now c.in-Err.is
 
 pub returns : goal.returns
 returns c =

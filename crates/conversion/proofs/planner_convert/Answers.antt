@@ -7,14 +7,14 @@ use Rattle.conversion.proofs.planner_convert.Goals as goal
 
 pub put_outcome-requires : goal.put_outcome-requires
 put_outcome-requires c =
-    record { outcome_bound = refused_early c.args.sheet.now c.read_stored-reading.ensures.whole c.args.rows.now c.in-Refused.is; at_bound = omega arith }
+    record { outcome_bound = refused_early c.args.sheet.now c.read-reading.ensures.whole c.args.rows.now c.in-Err.is; at_bound = omega arith }
 
-pub returns-in-Refused : goal.returns-in-Refused
-returns-in-Refused c =
+pub returns-in-Err : goal.returns-in-Err
+returns-in-Err c =
     let sheet = c.args.sheet.now in
     let rows = c.args.rows.now in
-    let is = c.read_stored-reading.ensures.whole in
-    let refused = c.in-Refused.is in
+    let is = c.read-reading.ensures.whole in
+    let refused = c.in-Err.is in
     let put = c.put_outcome.ensures in
     record {
       printed = put_printed (put_same (refused_printed sheet is rows refused) put);
@@ -23,13 +23,13 @@ returns-in-Refused c =
       comes_out = lent_comes_out (length rows) sheet;
     }
 
-pub returns-then-read_as-le-MOST_STEPS : goal.returns-then-read_as-le-MOST_STEPS
-returns-then-read_as-le-MOST_STEPS c =
+pub returns-then-reading-le-MOST_STEPS : goal.returns-then-reading-le-MOST_STEPS
+returns-then-reading-le-MOST_STEPS c =
     let sheet = c.args.sheet.now in
     let rows = c.args.rows.now in
-    let is = c.read_stored-reading.ensures.whole in
+    let is = c.read-reading.ensures.whole in
     let accepted = c.in_default.is in
-    let short = c.if-read_as-le-MOST_STEPS.true in
+    let short = c.if-reading-le-MOST_STEPS.true in
     let put = c.put_front.ensures in
     record {
       printed = put_printed (put_same (short_printed sheet is rows accepted (omega (arith, short))) put);
@@ -41,17 +41,17 @@ returns-then-read_as-le-MOST_STEPS c =
 pub split-requires : goal.split-requires
 split-requires c =
     record {
-      sheet_value = read_passes c.args.sheet.now c.read_stored-reading.ensures.whole c.args.rows.now c.in_default.is;
-      most_steps_lt_steps = c.if-read_as-le-MOST_STEPS.false;
+      sheet_value = read_passes c.args.sheet.now c.read-reading.ensures.whole c.args.rows.now c.in_default.is;
+      most_steps_lt_steps = c.if-reading-le-MOST_STEPS.false;
     }
 
 pub returns : goal.returns
 returns c =
     let sheet = c.args.sheet.now in
     let rows = c.args.rows.now in
-    let is = c.read_stored-reading.ensures.whole in
+    let is = c.read-reading.ensures.whole in
     let accepted = c.in_default.is in
-    let long = c.if-read_as-le-MOST_STEPS.false in
+    let long = c.if-reading-le-MOST_STEPS.false in
     let put = c.split.ensures in
     record {
       printed = put_printed (put_same (long_printed sheet is rows accepted long) put.put);

@@ -6,22 +6,17 @@ use Rattle.printing.proofs.Decimal.{length_some, length_from}
 use Rattle.decimal.proofs.digit_count.Goals as goal
 
 pub loop-count-init : goal.loop-count-init
-loop-count-init c = record { some = omega arith; in_table = omega arith; digits = length_some c.args.number }
+loop-count-init c = length_some c.args.number
 
 pub loop-count-preserved : goal.loop-count-preserved
-loop-count-preserved c =
-    record {
-      some = omega arith;
-      in_table = omega arith;
-      digits = omega (arith, length_from c.loop-count.count c.args.number (omega (arith, c.power_of_ten.ensures)));
-    }
+loop-count-preserved c = omega (arith, length_from c.loop-count.count c.args.number (omega (arith, c.power_of_ten-power.ensures)))
 
 -- the next power is not reached
-pub returns-else-power_of_ten-number-clause-counted : goal.returns-else-power_of_ten-number-clause-counted
-returns-else-power_of_ten-number-clause-counted c =
-    omega (arith, length_below c.loop-count.count c.args.number c.loop-count.invariant.some (omega (arith, c.power_of_ten.ensures)))
+pub returns-then-number-power-clause-counted : goal.returns-then-number-power-clause-counted
+returns-then-number-power-clause-counted c =
+    omega (arith, c.loop-count.invariant, length_below c.loop-count.count c.args.number (omega arith) (omega (arith, c.power_of_ten-power.ensures)))
 
 -- the table has no entry more, and a number of 32 bits no digit more
-pub returns-after-loop-count-clause-counted : goal.returns-after-loop-count-clause-counted
-returns-after-loop-count-clause-counted c =
-    omega (arith, length_below entries c.args.number (omega arith) (omega (arith, c.ranges.number)))
+pub returns-clause-counted : goal.returns-clause-counted
+returns-clause-counted c =
+    omega (arith, c.loop-count.invariant, length_below entries c.args.number (omega arith) (omega (arith, c.ranges.number)))

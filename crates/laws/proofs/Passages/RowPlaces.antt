@@ -10,19 +10,20 @@ use lib.ListN.{length, get_or, drop, length-append, length-map, length-drop, get
 use lib.Seq.{sets, sets-eq, get_or-append-add, get_or-drop}
 use Rattle.model.specs.Sheet.{most_quantities, most_steps}
 use Rattle.model.specs.Step.{no_ball, no_span, Row, no_row}
-use Rattle.model.specs.Rows.{ball_in, balls_in, spans_of, parts, values_part, radii_part, lows_part, highs_part, width, degree_place, part_place, row_parts, row_places, places, written, row_in, rows_in}
-use Rattle.model.specs.declared.Spans.{Spans}
+use Rattle.model.specs.Rows.{balls_of, spans_of, parts, values_part, radii_part, lows_part, highs_part, width, degree_place, part_place, row_parts, row_places, places, written, row_in, rows_in}
+use Rattle.model.specs.declared.Ball.{Ball}
+use Rattle.model.specs.declared.Span.{Span}
 use Rattle.ranges.proofs.Ranges.{tabulate_is, length_tabulate}
 use Rattle.ranges.proofs.Lists.{Each, none, entry_first, each_at}
 use Rattle.ranges.proofs.Stores.{sets_append}
 
--- ---- balls and spans in two arrays each
+-- ---- balls and spans in their arrays
 
-pub length_balls : (n : ℕ) (values : List ℤ) (radii : List ℕ) → length (balls_in n values radii) ≡ n
-unfolding balls_in
-length_balls n values radii = length_tabulate n (ball_in values radii)
+pub length_balls : (n : ℕ) (balls : List Ball) → length (balls_of n balls) ≡ n
+unfolding balls_of
+length_balls n balls = length_tabulate n _
 
-pub length_spans : (n : ℕ) (spans : Spans) → length (spans_of n spans) ≡ n
+pub length_spans : (n : ℕ) (spans : List Span) → length (spans_of n spans) ≡ n
 unfolding spans_of
 length_spans n spans = length_tabulate n _
 

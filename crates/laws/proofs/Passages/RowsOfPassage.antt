@@ -8,7 +8,7 @@ use borrow.Author.Tests.{le-leb, lt-leb, leb-true, leb-false}
 use lib.IntN.{ℤ}
 use lib.Dec.{leb}
 use lib.ListN.{length}
-use Rattle.model.specs.Sheet.{refused_step, Verdict, passes, refuses, sheet_verdict, terms_of, starts_of}
+use Rattle.model.specs.Sheet.{Outcome, not_refused, refused_at, refused_step, Verdict, passes, refuses, sheet_verdict, terms_of, starts_of}
 use Rattle.model.specs.LikeTerms.{gathered}
 use Rattle.model.specs.Step.{Row}
 use Rattle.model.specs.declared.Ball.{Ball}
@@ -17,8 +17,6 @@ use Rattle.model.specs.declared.Term.{Term}
 use Rattle.model.specs.declared.Sheet.{Sheet}
 use Rattle.model.specs.declared.Refusal.{Refusal}
 use Rattle.model.specs.declared.Refusal.TheVariants.{TooFewPlaces}
-use Rattle.model.specs.declared.Outcome.{Outcome}
-use Rattle.model.specs.declared.Outcome.TheVariants.{Accepted, Refused}
 use Rattle.ranges.proofs.Ranges.{length_tabulate}
 use Rattle.ranges.proofs.Lists.{Each, none, entry_first}
 use Rattle.laws.proofs.Passages.RowPlaces.{Quantities, Wide}
@@ -84,8 +82,8 @@ run_earlier sheet P holds =
 
 -- after so many steps more from step number `step`, so many rows: all where every step moves, the earlier ones where one is refused
 data Counts (left step : ℕ) : ℕ → Outcome → Type 0 where
-  all : {count : ℕ} → count ≡ left → Counts left step count Accepted
-  stopped : (count : ℕ) {r : Refusal} (refusedAt : ℕ) → count + step ≡ refusedAt → count < left → Counts left step count (Refused r refusedAt)
+  all : {count : ℕ} → count ≡ left → Counts left step count not_refused
+  stopped : (count : ℕ) {r : Refusal} (refusedAt : ℕ) → count + step ≡ refusedAt → count < left → Counts left step count (refused_at r refusedAt)
 
 abbrev CountsOf : ℕ → ℕ → Run → Type 0
 CountsOf left step run = Counts left step (length run.rows) run.outcome

@@ -2,12 +2,11 @@
 use Prim.Native.Nat.{ℕ, zero, suc}
 use mathlib.Core.Path.{◌≡◌, refl, sym, ap}
 use mathlib.Core.List.{List, []}
-use Rattle.model.specs.Sheet.{Verdict, passes, refuses, sheet_verdict, terms_of, starts_of}
+use Rattle.model.specs.Sheet.{not_refused, Verdict, passes, refuses, sheet_verdict, terms_of, starts_of}
 use Rattle.model.specs.LikeTerms.{gathered}
 use Rattle.model.specs.Passage.{stops, advance, step_of, Run, go_on, follow, run}
 use Rattle.model.specs.declared.Ball.{Ball}
 use Rattle.model.specs.declared.Sheet.{Sheet}
-use Rattle.model.specs.declared.Outcome.TheVariants.{Accepted}
 use Rattle.model.specs.declared.Refusal.{Refusal}
 
 module _ (sheet : Sheet) (balls : List Ball) where
@@ -24,7 +23,7 @@ module _ (sheet : Sheet) (balls : List Ball) where
 
 -- so many steps of a sheet, the first of them with this number, each from what the last one left
 pub stepwise : Sheet → ℕ → ℕ → List Ball → Run
-stepwise sheet zero step balls = record { rows = []; outcome = Accepted }
+stepwise sheet zero step balls = record { rows = []; outcome = not_refused }
 stepwise sheet (suc left) step balls = go_on (step_of sheet balls) step (λ row. stepwise sheet left (suc step) row.balls)
 
 -- one step by itself is a step of the passage: taken one after the other they are the run

@@ -1,4 +1,5 @@
 -- A passage under way: the rows done stand in the lent buffer, and what is left follows from the balls reached.
+use Rattle.model.specs.Sheet.{Outcome, not_refused, refused_at}
 use Prim.Native.Nat.{ℕ, suc, ◌+◌, ◌-◌, ◌*◌, ◌≤◌, ◌<◌}
 use mathlib.Core.Path.{◌≡◌, refl, sym, ap, ◌∙◌}
 use mathlib.Core.List.{List, [], ◌∷◌, ◌++◌, append_assoc, append-nil}
@@ -14,8 +15,6 @@ use Rattle.model.specs.Passage.{Advance, moves, stops, advance, Run, refused, go
 use Rattle.model.specs.Rows.{width, row_places, places, written}
 use Rattle.model.specs.declared.Term.{Term}
 use Rattle.model.specs.declared.Refusal.{Refusal}
-use Rattle.model.specs.declared.Outcome.{Outcome}
-use Rattle.model.specs.declared.Outcome.TheVariants.{Accepted, Refused}
 use Rattle.ranges.proofs.Lists.{none, entry_first}
 use Rattle.laws.proofs.Passages.RowPlaces.{Quantities, Wide, places_length, written_is_sets, sets_one_row_more}
 
@@ -93,14 +92,14 @@ module _ {terms : List Term} {H : ℤ} {limit tol : ℕ} where
         stored = rw (u.stored, ← (places_done u), ← (sets_one_row_more buffer u.rows row));
       }
 
-  pub finished_by_refusal : {steps n : ℕ} {start : List Ball} {buffer held : List ℤ} {done : ℕ} {balls : List Ball} (r : Refusal) → Underway terms H limit tol steps n start buffer done balls held → steps * width n ≤ length buffer → done < steps → advance terms H limit tol balls ≡ stops r → RunInto (follow terms H limit tol steps 1 start) buffer held (Refused r (done + 1))
+  pub finished_by_refusal : {steps n : ℕ} {start : List Ball} {buffer held : List ℤ} {done : ℕ} {balls : List Ball} (r : Refusal) → Underway terms H limit tol steps n start buffer done balls held → steps * width n ≤ length buffer → done < steps → advance terms H limit tol balls ≡ stops r → RunInto (follow terms H limit tol steps 1 start) buffer held (refused_at r (done + 1))
   unfolding go_on refused
   finished_by_refusal {steps} {done = done} {balls = balls} r u room h e =
-      ended (Refused r (done + 1)) u room (next_step terms H limit tol steps done balls (stops r) h e)
+      ended (refused_at r (done + 1)) u room (next_step terms H limit tol steps done balls (stops r) h e)
 
-  pub finished : {steps n : ℕ} {start : List Ball} {buffer held : List ℤ} {done : ℕ} {balls : List Ball} → Underway terms H limit tol steps n start buffer done balls held → steps * width n ≤ length buffer → steps ≤ done → RunInto (follow terms H limit tol steps 1 start) buffer held Accepted
+  pub finished : {steps n : ℕ} {start : List Ball} {buffer held : List ℤ} {done : ℕ} {balls : List Ball} → Underway terms H limit tol steps n start buffer done balls held → steps * width n ≤ length buffer → steps ≤ done → RunInto (follow terms H limit tol steps 1 start) buffer held not_refused
   unfolding follow
-  finished {steps} {done = done} u room h = ended Accepted u room (rw none_left)
+  finished {steps} {done = done} u room h = ended not_refused u room (rw none_left)
     where
       none_left : steps - done ≡ 0
       none_left = omega arith

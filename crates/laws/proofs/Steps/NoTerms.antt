@@ -13,7 +13,7 @@ use borrow.Author.Tests.{le-leb}
 use Rattle.rounding.specs.Rounding.{up}
 use Rattle.rounding.proofs.Roundings.{up_is_least}
 use Rattle.ranges.specs.Range.{sum, sum_ℤ, largest, tabulate, least}
-use Rattle.model.specs.Sheet.{scale, no_term, sheet_verdict, passes, listed, terms_of, starts_of}
+use Rattle.model.specs.Sheet.{not_refused, scale, no_term, sheet_verdict, passes, listed, terms_of, starts_of}
 use Rattle.model.specs.LikeTerms.{coefs_like, filter, summed, gathered}
 use Rattle.model.specs.Step.{no_ball, greatest, size, coefs, ratio_by, ratio, majorant, tail_at, degree, coefficient, coefficients_to, Row, new_ball, step_reach, new_span, new_row, step_row}
 use Rattle.model.specs.declared.Ball.{Ball}
@@ -21,7 +21,6 @@ use Rattle.model.specs.declared.Span.{Span}
 use Rattle.model.specs.Passage.{moves, question, small, slow, most_ratio, tolerable, tolerated, advance, go_on, follow, places_needed, run, passage}
 use Rattle.model.specs.declared.Sheet.{Sheet}
 use Rattle.model.specs.declared.Term.{Term}
-use Rattle.model.specs.declared.Outcome.TheVariants.{Accepted}
 use Rattle.laws.proofs.Bounds.Reach.{scale_positive}
 use Rattle.laws.proofs.Bounds.Invariant.{scale_le_greatest}
 use Rattle.ranges.proofs.Ranges.{tabulate_is, tabulate_equal}
@@ -102,7 +101,7 @@ advance_without_terms H limit tol balls s t = rw (s, no_ratio H (length balls) (
 
 -- ---- step after step
 
-pub follow_without_terms : (H : ℤ) (limit tol steps step : ℕ) (balls : List Ball) → small balls ≡ true → tolerable tol balls ≡ true → follow [] H limit tol steps step balls ≡ record { rows = replicate steps (unmoved balls); outcome = Accepted }
+pub follow_without_terms : (H : ℤ) (limit tol steps step : ℕ) (balls : List Ball) → small balls ≡ true → tolerable tol balls ≡ true → follow [] H limit tol steps step balls ≡ record { rows = replicate steps (unmoved balls); outcome = not_refused }
 unfolding follow go_on unmoved
 follow_without_terms H limit tol zero step balls s t = refl
 follow_without_terms H limit tol (suc steps) step balls s t = rw (advance_without_terms H limit tol balls s t, follow_without_terms H limit tol steps (suc step) balls s t)
@@ -123,6 +122,6 @@ cancelled terms zero-sums = go (gathered terms) (gathered_coef terms) (gathered_
 
 -- a sheet without terms, or whose terms cancel wholly: where question 4 passes and the radii are within `tol`, every row is of degree 0 with the
 -- start's values and radii
-pub passage_without_terms : (sheet : Sheet) (places : ℕ) → sheet_verdict sheet ≡ passes → places_needed sheet ≤ places → gathered (terms_of sheet) ≡ [] → small (starts_of sheet) ≡ true → tolerable sheet.head.tol (starts_of sheet) ≡ true → passage sheet places ≡ record { rows = replicate sheet.head.steps (unmoved (starts_of sheet)); outcome = Accepted }
+pub passage_without_terms : (sheet : Sheet) (places : ℕ) → sheet_verdict sheet ≡ passes → places_needed sheet ≤ places → gathered (terms_of sheet) ≡ [] → small (starts_of sheet) ≡ true → tolerable sheet.head.tol (starts_of sheet) ≡ true → passage sheet places ≡ record { rows = replicate sheet.head.steps (unmoved (starts_of sheet)); outcome = not_refused }
 unfolding passage run starts_of
 passage_without_terms sheet places v p none s t = rw (v, le-leb (places_needed sheet) places p, passage) (rw none (follow_without_terms sheet.head.step sheet.head.tail sheet.head.tol sheet.head.steps 1 (starts_of sheet) s t))

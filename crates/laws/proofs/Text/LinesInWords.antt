@@ -1,12 +1,12 @@
 -- What a line of a sheet's text is, in words: a key that was found stands there byte by byte, a line that is read ends in one line feed, and nothing follows
 -- the last.
+use Rattle.std.specs.Prelude.{Option, Some, None}
 use Prim.Native.Nat.{ℕ}
 use Prim.Native.Char.{code}
 use Prim.Native.String.{String}
 use mathlib.Core.Path.{◌≡◌, refl, sym, ap₂}
 use mathlib.Core.Bool.{Bool, true, false}
 use mathlib.Core.List.{List, [], ◌∷◌, ◌++◌}
-use mathlib.Core.Option.{Option, some, none}
 use native.Mathlib.Omega.{arith}
 use lib.IntN.{ℤ}
 use lib.Dec.{eqb}
@@ -15,15 +15,15 @@ use Rattle.ranges.specs.Range.{bytes}
 use Rattle.model.specs.Reading.{Spelled, spelled, wrong, parsed, after, ended, line, end}
 
 -- a text that was found stands at the front, byte by byte
-after_one : (k b : ℕ) (key text : List ℕ) {rest : List ℕ} → (after key text ≡ some rest → text ≡ key ++ rest) → after (k ∷ key) (b ∷ text) ≡ some rest → b ∷ text ≡ k ∷ (key ++ rest)
+after_one : (k b : ℕ) (key text : List ℕ) {rest : List ℕ} → (after key text ≡ Some rest → text ≡ key ++ rest) → after (k ∷ key) (b ∷ text) ≡ Some rest → b ∷ text ≡ k ∷ (key ++ rest)
 unfolding after
 after_one k b key text {rest} next e = go (eqb k b) refl e
   where
-    go : (t : Bool) → eqb k b ≡ t → elim t [ true ↦ after key text | false ↦ none ] ≡ some rest → b ∷ text ≡ k ∷ (key ++ rest)
+    go : (t : Bool) → eqb k b ≡ t → elim t [ true ↦ after key text | false ↦ None ] ≡ Some rest → b ∷ text ≡ k ∷ (key ++ rest)
     go true t e = ap₂ (λ (x : ℕ) (xs : List ℕ). x ∷ xs) (sym (eqb-true k b t)) (next e)
     go false t e = absurd (let z : ◌≡◌ {A = ℕ} 0 1 = cc in omega arith)
 
-pub after_says : (key text : List ℕ) {rest : List ℕ} → after key text ≡ some rest → text ≡ key ++ rest
+pub after_says : (key text : List ℕ) {rest : List ℕ} → after key text ≡ Some rest → text ≡ key ++ rest
 unfolding after
 after_says [] text e = cc
 after_says (k ∷ key) [] e = absurd (let z : ◌≡◌ {A = ℕ} 0 1 = cc in omega arith)
@@ -45,9 +45,9 @@ pub line_says : (key : String) (spelling : List ℕ → Spelled) (text : List �
 unfolding line
 line_says key spelling text {z} {rest} e = go (after (bytes key ++ bytes "=") text) refl e
   where
-    go : (x : Option (List ℕ)) → after (bytes key ++ bytes "=") text ≡ x → elim x [ some rest ↦ ended (spelling rest) | none ↦ wrong ] ≡ spelled z rest → (number : List ℕ) × ((text ≡ (bytes key ++ bytes "=") ++ number) × (spelling number ≡ spelled z (code "\n" ∷ rest)))
-    go (some number) found e = (number, (after_says (bytes key ++ bytes "=") text found, ended_says (spelling number) e))
-    go none found e = absurd (let z : ◌≡◌ {A = ℕ} 0 1 = cc in omega arith)
+    go : (x : Option (List ℕ)) → after (bytes key ++ bytes "=") text ≡ x → elim x [ Some rest ↦ ended (spelling rest) | None ↦ wrong ] ≡ spelled z rest → (number : List ℕ) × ((text ≡ (bytes key ++ bytes "=") ++ number) × (spelling number ≡ spelled z (code "\n" ∷ rest)))
+    go (Some number) found e = (number, (after_says (bytes key ++ bytes "=") text found, ended_says (spelling number) e))
+    go None found e = absurd (let z : ◌≡◌ {A = ℕ} 0 1 = cc in omega arith)
 
 -- nothing follows the last line
 pub end_says : {A : Type 0} (a : A) (text : List ℕ) {b : A} {rest : List ℕ} → end a text ≡ parsed b rest → text ≡ []

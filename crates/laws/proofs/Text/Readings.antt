@@ -1,11 +1,12 @@
 -- What reading gives: an accepted sheet is in range in every field and holds 0 past its counts; a refused one is the sheet of zeros, with
 -- one of the first four refusals and no step.
+use Rattle.std.specs.Prelude.{Option, Some, None}
+use Rattle.model.proofs.Outcomes.{same_refusal, same_step}
 use Prim.Native.Nat.{ℕ, zero, suc, ◌-◌, ◌≤◌, ◌<◌}
 use mathlib.Core.Path.{◌≡◌, refl, sym, ap, ◌∙◌}
 use mathlib.Core.Bool.{Bool, true, false}
 use mathlib.Core.List.{List, [], ◌∷◌, ◌++◌}
 use mathlib.Core.Logic.{⊎_elim}
-use mathlib.Core.Option.{Option, some, none}
 use native.Mathlib.Omega.{arith}
 use lib.Seq.{take_all, take_at, length-take-le}
 use lib.Signed.{le_z}
@@ -15,26 +16,23 @@ use lib.ListN.{length, get_or, take, replicate, length-append, length-replicate,
 use borrow.Author.Tests.{lt-leb, eq-eqb}
 use Rattle.ranges.specs.Range.{bytes}
 use Rattle.model.specs.Reading.{Parsed, parsed, fault, return, ◌>>=◌, signed_field, start, quantity, term, head, quantities, terms, body, sheet, accepted, read_sheet_to, after}
-use Rattle.model.specs.Sheet.{most_bytes, most_quantities, most_steps, most_terms, number, Verdict, passes, ◌then◌, in_order, head_verdict, quantity_verdict, quantities_verdict, start_verdict, term_verdict, terms_verdict, sheet_verdict_to, sheet_verdict, no_quantity, no_term, no_sheet, start_value, start_ball, starts_of, padded, quantities_held, terms_held, n_limits, steps_limits, tail_limits, tol_limits, start_limits, radius_limits, terms_limits, to_limits, coef_limits, first_limits, second_limits, from◌to◌}
+use Rattle.model.specs.Sheet.{not_refused, refused_at, most_bytes, most_quantities, most_steps, most_terms, number, Verdict, passes, ◌then◌, in_order, head_verdict, quantity_verdict, quantities_verdict, start_verdict, term_verdict, terms_verdict, sheet_verdict_to, sheet_verdict, no_quantity, no_term, no_sheet, start_value, start_ball, starts_of, padded, quantities_held, terms_held, n_limits, steps_limits, tail_limits, tol_limits, start_limits, radius_limits, terms_limits, to_limits, coef_limits, first_limits, second_limits, from◌to◌}
 use Rattle.model.specs.Step.{no_ball}
 use Rattle.laws.specs.ReadingMeans.{ZeroPastCounts}
 use Rattle.model.specs.declared.Refusal.{Refusal}
 use Rattle.model.specs.declared.Refusal.TheVariants.{Oversized, NoReading}
 use Rattle.model.specs.declared.Ball.{Ball}
-use Rattle.model.specs.declared.Start.{Start}
-use Rattle.model.specs.declared.Start.TheVariants.{Reading, Missing}
 use Rattle.model.specs.declared.Quantity.{Quantity}
 use Rattle.model.specs.declared.Term.{Term}
 use Rattle.model.specs.declared.Terms.{Terms}
 use Rattle.model.specs.declared.Sheet.{Sheet}
-use Rattle.model.specs.declared.Outcome.TheVariants.{Accepted, Refused}
 use Rattle.laws.proofs.Text.Verdicts.{refusal_not_passes, in_range_lem, few_quantities, sheet_in_range, both_pass}
 use Rattle.ranges.proofs.Ranges.{below, before_or_past, get_or_tabulate}
 use Rattle.laws.proofs.Text.Parsers.{Delivers, delivers, faulty, Yields, Each, yields_return, yields_then, yields_times, yields_end, yields_field, yields_signed, yields_step}
 
 -- ---- the parts of a sheet
 
-pub after_itself : (key rest : List ℕ) → after key (key ++ rest) ≡ some rest
+pub after_itself : (key rest : List ℕ) → after key (key ++ rest) ≡ Some rest
 unfolding after
 after_itself [] rest = refl
 after_itself (k ∷ key) rest = rw (eq-eqb k k refl, after) (after_itself key rest)
@@ -48,12 +46,12 @@ yields_start : Yields (λ x. start_verdict x ≡ passes) start
 unfolding start start_verdict number
 yields_start = record { on = λ text. go text (after (bytes "start=none\n") text) }
   where
-    reading : Yields (λ x. start_verdict x ≡ passes) (signed_field "start" start_limits >>= λ z. return (Reading z))
-    reading = yields_then (yields_signed "start" start_limits) (λ z w. yields_return (Reading z) w)
+    reading : Yields (λ x. start_verdict x ≡ passes) (signed_field "start" start_limits >>= λ z. return (Some z))
+    reading = yields_then (yields_signed "start" start_limits) (λ z w. yields_return (Some z) w)
 
-    go : (text : List ℕ) (x : Option (List ℕ)) → Delivers (λ x. start_verdict x ≡ passes) (elim x [ some rest ↦ fault NoReading | none ↦ (signed_field "start" start_limits >>= λ z. return (Reading z)) text ])
-    go text (some rest) = faulty NoReading (omega arith)
-    go text none = reading.on text
+    go : (text : List ℕ) (x : Option (List ℕ)) → Delivers (λ x. start_verdict x ≡ passes) (elim x [ Some rest ↦ fault NoReading | None ↦ (signed_field "start" start_limits >>= λ z. return (Some z)) text ])
+    go text (Some rest) = faulty NoReading (omega arith)
+    go text None = reading.on text
 
 then_passes : {a b : Verdict} → a ≡ passes → b ≡ passes → a then b ≡ passes
 unfolding ◌then◌
@@ -174,28 +172,28 @@ module _ (high : ℕ) where
   delivers_sheet text true = (yields_sheet high).on text
   delivers_sheet text false = faulty Oversized (omega arith)
 
-  pub accepted_is_acceptable : (text : List ℕ) → (read_sheet_to high text).outcome ≡ Accepted → Acceptable high (read_sheet_to high text).sheet
+  pub accepted_is_acceptable : (text : List ℕ) → (read_sheet_to high text).outcome ≡ not_refused → Acceptable high (read_sheet_to high text).sheet
   unfolding read_sheet_to accepted
   accepted_is_acceptable text = go (elim (leb (length text) most_bytes) [ true ↦ sheet high text | false ↦ fault Oversized ]) (delivers_sheet text (leb (length text) most_bytes))
     where
-      go : (x : Parsed Sheet) → Delivers (Acceptable high) x → (accepted x).outcome ≡ Accepted → Acceptable high (accepted x).sheet
+      go : (x : Parsed Sheet) → Delivers (Acceptable high) x → (accepted x).outcome ≡ not_refused → Acceptable high (accepted x).sheet
       go (parsed x rest) (delivers g) h = g
       go (fault r) (faulty _ g) h = absurd (let z : ◌≡◌ {A = ℕ} 0 1 = cc in omega arith)
 
-  pub refused_is_zeros : (text : List ℕ) {r : Refusal} {step : ℕ} → (read_sheet_to high text).outcome ≡ Refused r step → RefusedSheet r step (read_sheet_to high text).sheet
+  pub refused_is_zeros : (text : List ℕ) {r : Refusal} {step : ℕ} → (read_sheet_to high text).outcome ≡ refused_at r step → RefusedSheet r step (read_sheet_to high text).sheet
   unfolding read_sheet_to accepted
   refused_is_zeros text {r} {step} = go (elim (leb (length text) most_bytes) [ true ↦ sheet high text | false ↦ fault Oversized ]) (delivers_sheet text (leb (length text) most_bytes))
     where
-      go : (x : Parsed Sheet) → Delivers (Acceptable high) x → (accepted x).outcome ≡ Refused r step → RefusedSheet r step (accepted x).sheet
+      go : (x : Parsed Sheet) → Delivers (Acceptable high) x → (accepted x).outcome ≡ refused_at r step → RefusedSheet r step (accepted x).sheet
       go (parsed x rest) (delivers g) h = absurd (let z : ◌≡◌ {A = ℕ} 0 1 = cc in omega arith)
-      go (fault found) (faulty _ g) h = let same : found ≡ r = cc in record { zeros = refl; before_steps = cc; first_four = rw same at g }
+      go (fault found) (faulty _ g) h = record { zeros = refl; before_steps = sym (same_step h); first_four = rw (same_refusal h) at g }
 
   -- refusal 1
   oversized : (text : List ℕ) → most_bytes < length text → read_sheet_to high text ≡ accepted (fault Oversized)
   unfolding read_sheet_to
   oversized text h = rw (lt-leb (length text) most_bytes h)
 
-  pub long_text_is_oversized : (text : List ℕ) → most_bytes < length text → (read_sheet_to high text).outcome ≡ Refused Oversized 0
+  pub long_text_is_oversized : (text : List ℕ) → most_bytes < length text → (read_sheet_to high text).outcome ≡ refused_at Oversized 0
   unfolding accepted
   long_text_is_oversized text h = rw (oversized text h)
 
@@ -210,17 +208,17 @@ module _ (high : ℕ) where
       short h = ap (read_sheet_to high) (take_all room text h)
 
 -- refusal 4
-pub starts_are_readings : (sheet : Sheet) → sheet_verdict sheet ≡ passes → (i : ℕ) → i < sheet.head.n → (z : ℤ) × ((get_or sheet.quantities i no_quantity).start ≡ Reading z)
+pub starts_are_readings : (sheet : Sheet) → sheet_verdict sheet ≡ passes → (i : ℕ) → i < sheet.head.n → (z : ℤ) × ((get_or sheet.quantities i no_quantity).start ≡ Some z)
 unfolding quantity_verdict start_verdict
 starts_are_readings sheet h i l = reading (get_or sheet.quantities i no_quantity).start (both_pass _ _ ((sheet_in_range most_steps sheet h).quantity i l)).0
   where
-    reading : (x : Start) → start_verdict x ≡ passes → (z : ℤ) × (x ≡ Reading z)
-    reading (Reading z) e = (z, refl)
-    reading Missing e = absurd (refusal_not_passes e)
+    reading : (x : Option ℤ) → start_verdict x ≡ passes → (z : ℤ) × (x ≡ Some z)
+    reading (Some z) e = (z, refl)
+    reading None e = absurd (refusal_not_passes e)
 
 -- so that the value which a passage starts from is the number that the sheet has there, and never the 0 of a missing one
 pub start_is_read : (sheet : Sheet) → sheet_verdict sheet ≡ passes → (i : ℕ) → i < sheet.head.n →
-    (z : ℤ) × ((get_or sheet.quantities i no_quantity).start ≡ Reading z) × ((get_or (starts_of sheet) i no_ball).value ≡ z)
+    (z : ℤ) × ((get_or sheet.quantities i no_quantity).start ≡ Some z) × ((get_or (starts_of sheet) i no_ball).value ≡ z)
 unfolding starts_of start_ball start_value
 start_is_read sheet h i l =
     let read = starts_are_readings sheet h i l in

@@ -13,4 +13,4 @@ by_length step is asked = asked ∙ ap (λ (m : ℕ). within step_limits (pos m)
 
 pub returns : goal.returns
 unfolding step_limits from◌to◌ scale
-returns c = by_length _ (magnitude_is c.ranges.step c.magnitude.ensures) c.natural_within.ensures
+returns c = by_length _ (magnitude_is c.ranges.step c.unsigned_abs.ensures.value) c.natural_within.ensures

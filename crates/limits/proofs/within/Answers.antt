@@ -21,10 +21,10 @@ module _ (limits : Limits) {z : ℤ} (low : SFits w64 limits.low) (high : SFits 
   unfolding within
   below h = rw (to_z-of_z number, to_z-of_z low, rw (to_z-of_z low, to_z-of_z number) at h)
 
-pub returns-then-low-z : goal.returns-then-low-z
-returns-then-low-z c =
-    above c.args.limits (search rules) (search rules) c.ranges.z c.if-low-z.true
+pub returns-then-limits-z : goal.returns-then-limits-z
+returns-then-limits-z c =
+    above c.args.limits (search rules) (search rules) c.ranges.z c.if-limits-z.true
 
-pub returns-else-low-z : goal.returns-else-low-z
-returns-else-low-z c =
-    below c.args.limits (search rules) (search rules) c.ranges.z c.if-low-z.false
+pub returns-else-limits-z : goal.returns-else-limits-z
+returns-else-limits-z c =
+    below c.args.limits (search rules) (search rules) c.ranges.z c.if-limits-z.false

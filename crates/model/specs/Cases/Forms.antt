@@ -1,10 +1,10 @@
 -- What a worked case is: what the definitions come to, and what they should come to. The tables of the chapters are lists of such.
-use Rattle.std.specs.Prelude.{ℕ, Bool, true, false, List, [], ◌∷◌, map, ◌≡◌, ℤ, pos, neg_ℤ, ◌+ℤ◌, ◌-ℤ◌, length, take, drop, replicate}
+use Rattle.std.specs.Prelude.{ℕ, Bool, true, false, List, [], ◌∷◌, map, ◌≡◌, ℤ, pos, neg_ℤ, ◌+ℤ◌, ◌-ℤ◌, length, take, drop, replicate, Some}
 use Prim.Native.Char.{code}
 use Prim.Native.String.{String, ◌++◌ as ◌&◌}
 use Rattle.rounding.specs.Rounding.{near, up}
 use Rattle.ranges.specs.Range.{bytes}
-use Rattle.model.specs.Sheet.{number, result, refused_step, verdict_number, verdict_outcome, sheet_verdict_to, terms_of}
+use Rattle.model.specs.Sheet.{number, Outcome, result, refused_step, verdict_number, verdict_outcome, sheet_verdict_to, terms_of}
 use Rattle.model.specs.Reading.{Spelled, spelled, wrong, natural, signed, read_sheet_to, read_sheet}
 use Rattle.model.specs.LikeTerms.{gathered}
 use Rattle.model.specs.Step.{Ball, Span, Row}
@@ -12,11 +12,7 @@ use Rattle.model.specs.Passage.{Advance, step_of, passage, rows_written}
 use Rattle.model.specs.Rows.{laid_out, balls_of, spans_laid_out, spans_of, no_spans, written, rows_in}
 use Rattle.model.specs.Answer.{decimal, run_of, answer}
 use Rattle.model.specs.declared.Refusal.{Refusal}
-use Rattle.model.specs.declared.Outcome.{Outcome}
-use Rattle.model.specs.declared.Start.TheVariants.{Reading}
 use Rattle.model.specs.declared.Quantity.{Quantity}
-use Rattle.model.specs.declared.Balls.{Balls}
-use Rattle.model.specs.declared.Spans.{Spans}
 use Rattle.model.specs.declared.Sheet.{Sheet}
 use Rattle.model.specs.declared.Term.{Term}
 
@@ -44,7 +40,7 @@ pub data Finding : Type 0 where
   -- a sheet
   record_of : Sheet → Finding
   -- balls and spans in arrays, and by themselves
-  arrays : Balls → Spans → List Ball → List Span → Finding
+  arrays : List Ball → List Span → List Ball → List Span → Finding
   -- whether each of some numbers is in a range
   tests : List Bool → Finding
   -- a whole number
@@ -118,7 +114,7 @@ abbrev pub alone : String → Case
 alone sheet =
     let read = read_sheet (bytes sheet) in (
       told read.outcome and past (drop 1 read.sheet.quantities) (drop 1 read.sheet.terms.list),
-      outcome 0 0 and past (replicate 7 (record { start = Reading (pos 0); radius = 0 })) (replicate 31 (record { to = 0; coef = pos 0; first = 0; second = 0 })),
+      outcome 0 0 and past (replicate 7 (record { start = Some (pos 0); radius = 0 })) (replicate 31 (record { to = 0; coef = pos 0; first = 0; second = 0 })),
     )
 
 -- a text of so many letters is refused by this number, before step 1
@@ -143,12 +139,12 @@ abbrev pub numbered : Refusal → ℕ → Case
 numbered refusal n = (whole (pos (number refusal)), whole (pos n))
 
 -- balls and spans are laid out in these arrays, and read back from there
-abbrev pub laid : List Ball → List Span → Balls → Spans → Case
+abbrev pub laid : List Ball → List Span → List Ball → List Span → Case
 laid these ends in-balls in-spans =
     (arrays (laid_out these) (spans_laid_out ends) (balls_of (length these) in-balls) (spans_of (length ends) in-spans), arrays in-balls in-spans these ends)
 
 -- none are these arrays
-abbrev pub laid_none : Balls → Spans → Case
+abbrev pub laid_none : List Ball → List Span → Case
 laid_none in-balls in-spans = (arrays (laid_out []) no_spans [] [], arrays in-balls in-spans [] [])
 
 -- a text is refused by this number, and read as the sheet of zeros
@@ -158,7 +154,7 @@ zeros sheet number =
       told read.outcome and record_of read.sheet,
       outcome number 0 and record_of (record {
         head = record { n = 0; steps = 0; step = pos 0; tail = 0; tol = 0 };
-        quantities = replicate 8 (record { start = Reading (pos 0); radius = 0 });
+        quantities = replicate 8 (record { start = Some (pos 0); radius = 0 });
         terms = record { count = 0; list = replicate 32 (record { to = 0; coef = pos 0; first = 0; second = 0 }) };
       }),
     )

@@ -1,8 +1,7 @@
 -- The sheets that the worked cases are of: as texts, and as numbers.
-use Rattle.std.specs.Prelude.{ℕ, List, [], ◌∷◌, ℤ, pos, length}
+use Rattle.std.specs.Prelude.{ℕ, List, [], ◌∷◌, ℤ, pos, length, Some, None}
 use Prim.Native.String.{String, ◌++◌ as ◌&◌}
 use Rattle.model.specs.Sheet.{quantities_held, terms_held}
-use Rattle.model.specs.declared.Start.TheVariants.{Reading, Missing}
 use Rattle.model.specs.declared.Quantity.{Quantity}
 use Rattle.model.specs.declared.Sheet.{Sheet}
 use Rattle.model.specs.declared.Term.{Term}
@@ -73,11 +72,11 @@ wholes terms = "n=2\nsteps=1\nstep=4194304\ntail=349526\ntol=349534\nstart=16777
 
 -- a reading with a radius
 abbrev pub reading : ℕ → ℕ → Quantity
-reading start radius = record { start = Reading (pos start); radius = radius }
+reading start radius = record { start = Some (pos start); radius = radius }
 
 -- no reading
 abbrev pub missing : ℕ → Quantity
-missing radius = record { start = Missing; radius = radius }
+missing radius = record { start = None; radius = radius }
 
 -- a term
 abbrev pub term : ℕ → ℤ → ℕ → ℕ → Term
@@ -97,7 +96,7 @@ abbrev pub lone : ℕ → ℤ → List Term → Sheet
 lone tail start list =
     record {
       head = record { n = 1; steps = 1; step = pos 1; tail = tail; tol = 1 };
-      quantities = quantities_held (record { start = Reading start; radius = 0 } ∷ missing 536870913 ∷ []);
+      quantities = quantities_held (record { start = Some start; radius = 0 } ∷ missing 536870913 ∷ []);
       terms = terms_held (length list) list;
     }
 

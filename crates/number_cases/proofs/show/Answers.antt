@@ -1,30 +1,24 @@
 -- `number_cases::show` meets its contract: both lines fit, that of a number in its range and that of a number that was read.
-use Rattle.std.proofs.Common.{◌<◌, ◌^◌, refl, sym, arith, nat_abs}
+use Rattle.std.proofs.Common.{◌<◌, ◌^◌, ◌≡◌, refl, sym, ap, arith, nat_abs, length, List, [], ℕ}
 use mir.Syntax.{w64}
 use mir.Val.{SFits}
 use mir.Facts.{to_z-of_z}
 use Rattle.ranges.specs.Range.{bytes}
 use Rattle.rounding.proofs.Machine.{below_fits}
-use Rattle.lines.specs.Places.{spelled_at}
-use Rattle.number_cases.proofs.Sizes.{room_for_line, read_small}
+use Rattle.number_cases.proofs.Sizes.{length_line, read_small}
 use Rattle.number_cases.proofs.show.Goals as goal
 
-pub print_line-requires-clause-room : goal.print_line-requires-clause-room
+none : {text : List ℕ} → text ≡ [] → length text ≡ 0
+none e = ap length e
+
+pub line-requires : goal.line-requires
 unfolding bytes
-print_line-requires-clause-room c = rw (to_z-of_z c.ranges.number) (room_for_line (bytes "number=") c.args.number (omega arith) (omega arith) c.requires)
+line-requires c =
+    rw (to_z-of_z c.ranges.number) (omega arith, (c.requires, omega (arith, none c.new-printed.ensures, length_line (bytes "number=") c.args.number (omega arith) c.requires)))
 
--- the number that was read
-read_fits : (c : goal.After-print_line-arg-in-Number-2-1) → nat_abs c.in-Number.z < 2 ^ 32
-unfolding spelled_at
-read_fits c = read_small _ _ (sym c.in-Number.ensures.read)
-
-read_small_fits : (c : goal.After-print_line-arg-in-Number-2-1) → SFits w64 c.in-Number.z
-read_small_fits c = let small : nat_abs c.in-Number.z < 2 ^ 32 = read_fits c in below_fits refl (omega arith)
-
-pub print_line-requires-in-Number-clause-number_bound : goal.print_line-requires-in-Number-clause-number_bound
-print_line-requires-in-Number-clause-number_bound c = rw (to_z-of_z (read_small_fits c)) (read_fits c)
-
-pub print_line-requires-in-Number-clause-room : goal.print_line-requires-in-Number-clause-room
+pub line-requires-3 : goal.line-requires-3
 unfolding bytes
-print_line-requires-in-Number-clause-room c =
-    rw (to_z-of_z (read_small_fits c)) (room_for_line (bytes "read=") c.in-Number.z (omega arith) (omega arith) (read_fits c))
+line-requires-3 c =
+    let small : nat_abs c.in-Some.z < 2 ^ 32 = read_small _ _ (sym c.in-Some.ensures.read) in
+    let fits : SFits w64 c.in-Some.z = below_fits refl (omega arith) in
+    rw (to_z-of_z fits) (omega arith, (small, omega (arith, none c.new-again.ensures, length_line (bytes "read=") c.in-Some.z (omega arith) small)))

@@ -1,23 +1,16 @@
 -- `products::factor` meets its contract. Each return is a case of the definition.
-use Prim.Native.Nat.{ℕ, zero, suc, ◌+◌, ◌-◌, ◌*◌, ◌≤◌}
+use Prim.Native.Nat.{ℕ, zero, suc, ◌-◌, ◌≤◌, ◌<◌}
 use mathlib.Core.Logic.{◌≢◌}
-use mathlib.Core.List.{List}
-use mathlib.Core.Path.{◌≡◌, refl, sym, ap, ◌∙◌}
+use mathlib.Core.Path.{◌≡◌, refl, sym, ◌∙◌}
 use native.Mathlib.Nat.{le_refl}
 use native.Mathlib.Omega.{arith}
-use lib.IntN.{ℤ, pos, nat_abs}
-use lib.ListN.{get_or}
-use borrow.Author.Rules.{rules}
-use mir.Syntax.{w64}
-use mir.Val.{SFits, to_z, of_z}
-use mir.Facts.{to_z-of_z}
-use Rattle.rounding.proofs.Machine.{magnitude_is}
+use lib.IntN.{pos}
 use Rattle.model.specs.Sheet.{scale, most_quantities}
 use Rattle.model.specs.Step.{Coefficients, no_ball, factor}
 use Rattle.model.specs.declared.Ball.{Ball}
-use Rattle.products.specs.Table.{orders, place, ball_at, table_in}
-use Rattle.products.proofs.TablePlaces.{factor_in}
-use Rattle.laws.proofs.Steps.Tables.{ball_equal}
+use Rattle.products.specs.Table.{ball_at, table_in}
+use Rattle.products.specs.declared.table.Table.{Table}
+use Rattle.products.proofs.Factors.{factor_in}
 use Rattle.products.proofs.factor.Goals as goal
 
 absent_at_start : (table : Coefficients) {k number : ℕ} → number ≡ 0 → k ≡ 0 → ◌≡◌ {A = Ball} (record { value = pos scale; radius = 0 }) (factor table k number)
@@ -32,19 +25,17 @@ absent_after table {k} p q = rw p (go k q)
     go zero q = absurd (q refl)
     go (suc k) q = refl
 
-present : (values : List ℤ) (reaches : List ℕ) (k number : ℕ) {m : ℕ} → number ≢ 0 → number ≤ most_quantities → SFits w64 (get_or values ((number - 1) * orders + k) (pos 0)) → m ≡ nat_abs (to_z w64 (of_z w64 (get_or values ((number - 1) * orders + k) (pos 0)))) →
-    ◌≡◌ {A = Ball} (record { value = to_z w64 (of_z w64 (get_or values ((number - 1) * orders + k) (pos 0))); radius = get_or reaches ((number - 1) * orders + k) 0 - m }) (factor (table_in k values reaches) k number)
-unfolding ball_at place
-present values reaches k number p high fits e =
-    ball_equal (to_z-of_z fits) (ap (λ (m : ℕ). get_or reaches ((number - 1) * orders + k) 0 - m) (magnitude_is fits e)) ∙ sym (factor_in k values reaches k (le_refl k) number (record { low = omega (arith, p); high = high }))
+-- the same by the ball that the table gives
+present : (table : Table) (k number : ℕ) {ball : Ball} → 0 < number → number ≤ most_quantities → ball ≡ ball_at table k (number - 1) → ball ≡ factor (table_in k table) k number
+present table k number low high e = e ∙ sym (factor_in k table k (le_refl k) number (record { low = low; high = high }))
+
+pub returns-then-number-gt0 : goal.returns-then-number-gt0
+returns-then-number-gt0 c =
+    present c.args.table.now c.args.k c.args.number (omega arith) c.requires.number_le_most_quantities c.ball.ensures
 
 pub returns-then-k-eq0 : goal.returns-then-k-eq0
 unfolding scale
-returns-then-k-eq0 c = absent_at_start _ c.if-number-eq0.true c.if-k-eq0.true
+returns-then-k-eq0 c = absent_at_start _ (omega arith) c.if-k-eq0.true
 
-pub returns-then-number-eq0 : goal.returns-then-number-eq0
-returns-then-number-eq0 c = absent_after _ c.if-number-eq0.true c.if-k-eq0.false
-
-pub returns : goal.returns
-returns c =
-    present _ _ c.args.k c.args.number c.if-number-eq0.false c.requires.number_le_most_quantities (search rules) c.magnitude.ensures
+pub returns-else-k-eq0 : goal.returns-else-k-eq0
+returns-else-k-eq0 c = absent_after _ (omega arith) c.if-k-eq0.false

@@ -1,6 +1,5 @@
 -- `products::share` meets its contract. It is the definition, one call for each part.
 use Prim.Native.Nat.{ℕ, ◌*◌, ◌^◌, ◌<◌}
-use mathlib.Core.List.{List}
 use mathlib.Core.Path.{◌≡◌}
 use lib.IntN.{ℤ, nat_abs}
 use borrow.Author.Rules.{rules}
@@ -10,11 +9,12 @@ use mir.Facts.{to_z-of_z}
 use Rattle.model.specs.Step.{reach, products, times, share}
 use Rattle.model.specs.declared.Ball.{Ball}
 use Rattle.model.specs.declared.Term.{Term}
+use Rattle.products.specs.declared.table.Table.{Table}
 use Rattle.products.specs.Table.{table_in, ShareFits}
 use Rattle.products.proofs.share.Goals as goal
 
 -- what the calls give, and what they ask, of the numbers themselves and not of their bits
-module _ {H : ℤ} {k : ℕ} {term : Term} {values : List ℤ} {reaches : List ℕ} (asked : ShareFits H k term values reaches) (step_fits : SFits w64 H) {sums : Ball} (formed : sums ≡ products (table_in k values reaches) k term.first term.second) where
+module _ {H : ℤ} {k : ℕ} {term : Term} {table : Table} (asked : ShareFits H k term table) (step_fits : SFits w64 H) {sums : Ball} (formed : sums ≡ products (table_in k table) k term.first term.second) where
   step_handed : nat_abs (to_z w64 (of_z w64 H)) * reach sums < 2 ^ 63
   step_handed = rw (to_z-of_z step_fits, formed) asked.step_fits
 
@@ -22,7 +22,7 @@ module _ {H : ℤ} {k : ℕ} {term : Term} {values : List ℤ} {reaches : List �
     coef_handed : nat_abs (to_z w64 (of_z w64 term.coef)) * reach ball < 2 ^ 63
     coef_handed = rw (to_z-of_z coef_fits, stepped, to_z-of_z step_fits, formed) asked.coef_fits
 
-    share_is : {result : Ball} → result ≡ times (to_z w64 (of_z w64 term.coef)) ball → result ≡ share H (table_in k values reaches) k term
+    share_is : {result : Ball} → result ≡ times (to_z w64 (of_z w64 term.coef)) ball → result ≡ share H (table_in k table) k term
     unfolding share
     share_is e = rw (to_z-of_z coef_fits, stepped, to_z-of_z step_fits, formed) at e
 

@@ -35,15 +35,15 @@ pub overflow_mul-a : goal.overflow_mul-a
 overflow_mul-a c =
     product_fits c.args.a c.args.ball c.requires c.ranges.a (search rules)
 
-pub overflow_mul-magnitude : goal.overflow_mul-magnitude
-overflow_mul-magnitude c =
-    omega (arith, radius_fits c.args.a c.args.ball c.requires c.ranges.a (search rules) c.magnitude.ensures)
+pub overflow_mul-unsigned_abs : goal.overflow_mul-unsigned_abs
+overflow_mul-unsigned_abs c =
+    omega (arith, radius_fits c.args.a c.args.ball c.requires c.ranges.a (search rules) c.unsigned_abs.ensures.value)
 
 pub up_and_one-requires : goal.up_and_one-requires
 up_and_one-requires c =
     record {
       d_nonzero = omega arith;
-      d_bound = omega (arith, radius_fits c.args.a c.args.ball c.requires c.ranges.a (search rules) c.magnitude.ensures);
+      d_bound = omega (arith, radius_fits c.args.a c.args.ball c.requires c.ranges.a (search rules) c.unsigned_abs.ensures.value);
     }
 
 pub returns : goal.returns
@@ -51,4 +51,4 @@ unfolding times scale
 returns c =
     ball_equal
     (to_z-of_z {w = w64} (search rules) ∙ value_is c.args.a c.args.ball c.requires c.ranges.a (search rules) c.near.ensures)
-    (c.up_and_one.ensures ∙ ap (λ (m : ℕ). up (m * c.args.ball.radius) scale + 1) (magnitude_is c.ranges.a c.magnitude.ensures))
+    (c.up_and_one.ensures ∙ ap (λ (m : ℕ). up (m * c.args.ball.radius) scale + 1) (magnitude_is c.ranges.a c.unsigned_abs.ensures.value))

@@ -27,17 +27,17 @@ natural_result n {d} {m} f t h e =
 
 pub negated-requires : goal.negated-requires
 negated-requires c =
-    omega (arith, rounded c.args.d c.ranges.n c.magnitude.ensures c.near_magnitude-m.ensures, near_ℕ_le (nat_abs c.args.n) c.requires, abs_of_fits c.ranges.n)
+    omega (arith, rounded c.args.d c.ranges.n c.unsigned_abs.ensures.value c.near_magnitude-m.ensures, near_ℕ_le (nat_abs c.args.n) c.requires, abs_of_fits c.ranges.n)
 
 pub overflow_cast-result : goal.overflow_cast-result
 overflow_cast-result c =
     record
-    { sfits = natural_fits c.args.n c.ranges.n (sign_test c.ranges.n c.if-n-lt0.false) c.requires (rounded c.args.d c.ranges.n c.magnitude.ensures c.near_magnitude-m.ensures) }
+    { sfits = natural_fits c.args.n c.ranges.n (sign_test c.ranges.n c.if-n-lt0.false) c.requires (rounded c.args.d c.ranges.n c.unsigned_abs.ensures.value c.near_magnitude-m.ensures) }
 
 pub returns-then-n-lt0 : goal.returns-then-n-lt0
 returns-then-n-lt0 c =
-    to_z-of_z {w = w64} (record { sfits = c.negated.type_inv }) ∙ c.negated.ensures ∙ ap (λ (m : ℕ). neg_ℤ (pos m)) (rounded c.args.d c.ranges.n c.magnitude.ensures c.near_magnitude-m.ensures) ∙ sym (near_negative c.args.n c.args.d (sign_test c.ranges.n c.if-n-lt0.true))
+    to_z-of_z {w = w64} (record { sfits = c.negated.type_inv }) ∙ c.negated.ensures ∙ ap (λ (m : ℕ). neg_ℤ (pos m)) (rounded c.args.d c.ranges.n c.unsigned_abs.ensures.value c.near_magnitude-m.ensures) ∙ sym (near_negative c.args.n c.args.d (sign_test c.ranges.n c.if-n-lt0.true))
 
 pub returns-else-n-lt0 : goal.returns-else-n-lt0
 returns-else-n-lt0 c =
-    natural_result c.args.n c.ranges.n (sign_test c.ranges.n c.if-n-lt0.false) c.requires (rounded c.args.d c.ranges.n c.magnitude.ensures c.near_magnitude-m.ensures)
+    natural_result c.args.n c.ranges.n (sign_test c.ranges.n c.if-n-lt0.false) c.requires (rounded c.args.d c.ranges.n c.unsigned_abs.ensures.value c.near_magnitude-m.ensures)

@@ -1,38 +1,16 @@
--- `sheet::read_body` meets its contract: the quantities, the terms and the end, one after the other.
-use mathlib.Core.Path.{sym, ap, ◌∙◌}
-use Rattle.model.specs.Reading.{body, accepted}
-use Rattle.lines.proofs.FieldsRead.{bind_parsed, bind_fault, ends, goes_on}
-use Rattle.sheet_body.specs.BodyRead.{quantities_read, terms_read}
-use Rattle.sheet_body.proofs.Arrays.{accepted_with, refused_with}
+-- `sheet::read_body` meets its contract: bytes after the last line.
+use Rattle.std.proofs.Common.{sym, ◌∙◌}
+use Rattle.std.proofs.lemmas.Result.{err_from_is_err_and}
+use Rattle.model.specs.Reading.{body, quantities, terms}
+use Rattle.lines.proofs.Ends.{goes_on}
+use Rattle.sheet_body.proofs.Arrays.{bind_parsed}
 use Rattle.sheet.proofs.read_body.Goals as goal
 
-pub returns-in-Refused : goal.returns-in-Refused
-unfolding quantities_read terms_read body
-returns-in-Refused c =
-    c.refused.ensures ∙
-    ap accepted (sym (bind_fault _ _ (sym c.read_quantities-quantities.ensures ∙ refused_with _ _ c.in-Refused.is)))
-
-pub returns-in-Refused-terms_outcome : goal.returns-in-Refused-terms_outcome
-unfolding quantities_read terms_read body
-returns-in-Refused-terms_outcome c =
-    c.refused-in-Refused-terms_outcome.ensures ∙
-    ap accepted (sym (
-    bind_parsed _ _ (sym c.read_quantities-quantities.ensures ∙ accepted_with _ _ c.in_default.is) ∙
-    bind_fault _ _ (sym c.read_terms-terms.ensures ∙ refused_with _ _ c.in-Refused-terms_outcome.is)))
-
-pub returns-then-not-at_end : goal.returns-then-not-at_end
-unfolding quantities_read terms_read body
-returns-then-not-at_end c =
-    c.refused-then-not-at_end.ensures ∙
-    ap accepted (sym (
-    bind_parsed _ _ (sym c.read_quantities-quantities.ensures ∙ accepted_with _ _ c.in_default.is) ∙
-    bind_parsed _ _ (sym c.read_terms-terms.ensures ∙ accepted_with _ _ c.in_default-terms_outcome.is) ∙
-    goes_on _ _ (sym c.if-not-at_end.ensures)))
-
-pub returns : goal.returns
-unfolding quantities_read terms_read body accepted
-returns c =
-    ap accepted (sym (
-    bind_parsed _ _ (sym c.read_quantities-quantities.ensures ∙ accepted_with _ _ c.in_default.is) ∙
-    bind_parsed _ _ (sym c.read_terms-terms.ensures ∙ accepted_with _ _ c.in_default-terms_outcome.is) ∙
-    ends _ _ (sym c.if-not-at_end.ensures)))
+pub returns-in_err-end_of_text : goal.returns-in_err-end_of_text
+unfolding body
+returns-in_err-end_of_text c =
+    let p = err_from_is_err_and c.from_residual-in_err-end_of_text.result c.from_residual-in_err-end_of_text.ensures.1 in
+    rw (p.1, p.2) (sym (
+    bind_parsed (quantities c.args.head.n) _ (sym c.in_ok-quantities.ensures) ∙
+    bind_parsed (terms c.args.head.n) _ (sym c.in_ok-terms.ensures) ∙
+    goes_on _ _ c.in_err-end_of_text.ensures))

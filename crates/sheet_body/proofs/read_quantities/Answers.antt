@@ -1,30 +1,24 @@
--- `sheet_body::read_quantities` meets its contract. The invariant: the lines so far gave the front of the list.
-use mathlib.Core.Path.{refl, sym}
-use native.Mathlib.Omega.{arith}
+-- `sheet_body::read_quantities` meets its contract: the lines so far gave the front of the list.
+use Rattle.std.proofs.Common.{refl, sym, arith}
+use Rattle.std.proofs.lemmas.Result.{err_from_is_err_and}
 use Rattle.model.specs.Sheet.{most_quantities, no_quantity, quantities_held}
 use Rattle.model.specs.Reading.{return, times, quantity, quantities}
-use Rattle.lines.specs.Places.{rest}
-use Rattle.sheet_body.specs.BodyRead.{quantity_read, with_outcome, quantities_read}
 use Rattle.sheet_body.proofs.Arrays.{filled_more, filled_fault, filled_all}
 use Rattle.sheet_body.proofs.read_quantities.Goals as goal
 
 pub loop-i-init : goal.loop-i-init
-unfolding times return
-loop-i-init c = (omega arith, record { so_far = refl; past = rw c.no_quantity-none.ensures; long = refl })
+unfolding times return no_quantity
+loop-i-init c = record { so_far = refl; past = refl; long = refl }
 
-pub returns-in-Fault : goal.returns-in-Fault
-unfolding quantities_read with_outcome quantities quantities_held quantity_read
-returns-in-Fault c =
-    sym (filled_fault quantity most_quantities no_quantity (rest c.args.text.now c.args.from) (λ xs. xs) c.args.n c.loop-i-test.true c.loop-i.invariant.1 (sym c.in-Fault.ensures))
+pub returns-in_err-quantity : goal.returns-in_err-quantity
+unfolding quantities quantities_held
+returns-in_err-quantity c =
+    let p = err_from_is_err_and c.from_residual.result c.from_residual.ensures.1 in
+    rw (p.1, p.2) (sym (filled_fault quantity most_quantities no_quantity c.args.text.now (λ xs. xs) c.args.n c.loop-i-test.true c.loop-i.invariant (sym c.in_err-quantity.ensures)))
 
 pub loop-i-preserved : goal.loop-i-preserved
-unfolding quantity_read
-loop-i-preserved c = (
-  omega arith,
-  filled_more quantity most_quantities no_quantity (rest c.args.text.now c.args.from) (omega (arith, c.requires)) c.loop-i.invariant.1 (sym c.in-Hold.ensures),
-)
+loop-i-preserved c = filled_more quantity most_quantities no_quantity c.args.text.now (omega (arith, c.requires)) c.loop-i.invariant (sym c.in_ok-quantity.ensures)
 
 pub returns : goal.returns
-unfolding quantities_read with_outcome quantities quantities_held
-returns c =
-    sym (filled_all quantity most_quantities no_quantity (rest c.args.text.now c.args.from) (λ xs. xs) c.args.n (omega arith) (omega (arith, c.requires)) c.loop-i.invariant.1)
+unfolding quantities quantities_held
+returns c = sym (filled_all quantity most_quantities no_quantity c.args.text.now (λ xs. xs) c.args.n (omega arith) (omega (arith, c.requires)) c.loop-i.invariant)

@@ -1,28 +1,38 @@
 -- `sheet_parts::second_part` meets its contract: the sheet with another head and other starts.
-use Prim.Native.Nat.{◌-◌}
+use Prim.Native.Nat.{ℕ, ◌-◌, ◌≤◌}
 use mathlib.Core.List.{List, map}
-use mathlib.Core.Path.{◌≡◌, ap, ◌∙◌}
+use mathlib.Core.Path.{◌≡◌, refl, sym, ap, ◌∙◌}
+use native.Mathlib.Omega.{arith}
+use borrow.Author.Rules.{rules}
+use lib.IntN.{ℤ}
+use lib.ListN.{length, get_or, take, length-take}
+use mir.Syntax.{w64}
+use mir.Val.{SFits}
+use mir.Facts.{to_z-of_z}
+use Rattle.std.proofs.lemmas.List.{get_or-take}
 use Rattle.model.specs.Sheet.{most_steps, quantities_held}
+use Rattle.model.specs.Step.{no_ball}
 use Rattle.model.specs.Rows.{balls_of}
-use Rattle.stored.specs.Conversion.{with_steps, starting_from, second_part}
-use Rattle.model.specs.declared.Balls.{Balls}
-use Rattle.model.specs.declared.Head.{Head}
+use Rattle.model.specs.declared.Ball.{Ball}
 use Rattle.model.specs.declared.Quantity.{Quantity}
 use Rattle.model.specs.declared.Sheet.{Sheet}
+use Rattle.stored.specs.Conversion.{with_steps, starting_from, second_part}
+use Rattle.ranges.proofs.Ranges.{tabulate_is}
 use Rattle.sheet_parts.proofs.second_part.Goals as goal
 
-second_is : (sheet : Sheet) (balls : Balls) {head : Head} {quantities : List Quantity} → head ≡ with_steps (sheet.head.steps - most_steps) sheet.head → quantities ≡ quantities_held (map starting_from (balls_of head.n balls)) → record { head = head; quantities = quantities; terms = sheet.terms } ≡ second_part most_steps sheet (balls_of sheet.head.n balls)
-unfolding second_part with_steps
-second_is sheet balls is starts =
-    λ t. record {
-      head = is t;
-      quantities = (starts ∙ ap (λ (head : Head). quantities_held (map starting_from (balls_of head.n balls))) is) t;
-      terms = sheet.terms;
-    }
+-- the first n balls
+first_balls : (n : ℕ) (balls : List Ball) → n ≤ length balls → take n balls ≡ balls_of n balls
+unfolding balls_of
+first_balls n balls few =
+    sym (tabulate_is n (λ i. get_or balls i no_ball) no_ball (take n balls) (rw length-take (omega arith)) (λ i h. sym (get_or-take n balls i no_ball h)))
 
-pub starting_from-quantities-requires : goal.starting_from-quantities-requires
-unfolding with_steps
-starting_from-quantities-requires c = rw c.with_steps-head.ensures c.requires.n_le_most_quantities
+-- with so many steps, the same step and these quantities
+second_is : (sheet : Sheet) (balls : List Ball) {steps : ℕ} {step : ℤ} {quantities : List Quantity} → steps ≡ sheet.head.steps - most_steps → step ≡ sheet.head.step → quantities ≡ quantities_held (map starting_from balls) → record { head = record { n = sheet.head.n; steps = steps; step = step; tail = sheet.head.tail; tol = sheet.head.tol }; quantities = quantities; terms = sheet.terms } ≡ second_part most_steps sheet balls
+unfolding second_part with_steps
+second_is sheet balls left same starts = rw (left, same, starts)
 
 pub returns : goal.returns
-returns c = second_is c.args.sheet c.args.balls c.with_steps-head.ensures c.starting_from-quantities.ensures
+returns c =
+    let fits : SFits w64 c.args.sheet.now.head.step = search rules in
+    let room : c.args.sheet.now.head.n ≤ length c.args.balls.now = search rules in
+    second_is c.args.sheet.now (balls_of c.args.sheet.now.head.n c.args.balls.now) refl (to_z-of_z fits) (c.starting_from.ensures ∙ ap (λ (balls : List Ball). quantities_held (map starting_from balls)) (first_balls c.args.sheet.now.head.n c.args.balls.now room))

@@ -1,49 +1,40 @@
--- `sheet_text::put_quantity` meets its contract: the start, and then its radius.
-use Prim.Native.Nat.{ℕ, ◌+◌, ◌≤◌}
+-- `sheet_text::put_quantity` meets its contract: the line of the start, and then its radius.
+use Prim.Native.Nat.{ℕ}
+use mathlib.Core.Path.{◌≡◌}
 use mathlib.Core.List.{List, ◌++◌}
 use native.Mathlib.Omega.{arith}
 use lib.IntN.{pos}
-use lib.ListN.{length}
-use mir.Syntax.{w64}
-use mir.Val.{to_z, of_z}
 use Rattle.ranges.specs.Range.{bytes}
 use Rattle.model.specs.Answer.{printed}
-use Rattle.stored.specs.Conversion.{start_text, quantity_text}
 use Rattle.model.specs.declared.Quantity.{Quantity}
-use Rattle.printing.specs.Pieces.{Put, Room}
-use Rattle.printing.specs.SheetLength.{most_quantity}
-use Rattle.printing.proofs.LineLength.{natural_fits, line_asked_lem, line_put}
-use Rattle.printing.proofs.Pieces.{put_then, room_rest}
-use Rattle.printing.proofs.SheetLength.{QuantityShort, quantity_short, length_quantity}
+use Rattle.stored.specs.Conversion.{start_text, quantity_text}
+use Rattle.printing.specs.SheetLength.{most_start}
+use Rattle.printing.proofs.LineLength.{Short, short_natural, Added, line_asked, line_added, length_added}
+use Rattle.printing.proofs.SheetLength.{QuantityShort, quantity_short, length_start}
 use Rattle.sheet_text.proofs.put_quantity.Goals as goal
 
-module _ {quantity : Quantity} (short : QuantityShort quantity) {text : List ℕ} {at : ℕ} where
-  -- there is room for its lines
-  room : at + most_quantity ≤ length text → Room text at (start_text quantity.start ++ printed "radius" (pos quantity.radius))
-  unfolding quantity_text
-  room h = record { fits = omega (arith, h, length_quantity quantity short) }
+radius_short : {quantity : Quantity} → QuantityShort quantity → Short "radius" 9 (pos quantity.radius)
+radius_short short = short_natural "radius" 9 (omega arith) short.radius (omega (arith, short.radius))
 
-  -- the lines that are put, of a radius of which the code hands over the bits
-  quantity_put : {a b : List ℕ} {i j : ℕ} → Put text at (start_text quantity.start) i a → Put a i (printed "radius" (to_z w64 (of_z w64 (pos quantity.radius)))) j b → Put text at (quantity_text quantity) j b
-  unfolding quantity_text
-  quantity_put p q = put_then p (line_put "radius" (omega (arith, short.radius)) q)
-
-pub put_start-started-requires-clause-start_value : goal.put_start-started-requires-clause-start_value
-put_start-started-requires-clause-start_value c = (quantity_short c.args.quantity c.requires.quantity_value).start
+pub put_start-requires-clause-start_value : goal.put_start-requires-clause-start_value
+put_start-requires-clause-start_value c = (quantity_short c.args.quantity c.requires.quantity_value).start
 
 pub overflow_cast-quantity : goal.overflow_cast-quantity
-overflow_cast-quantity c = natural_fits (omega (arith, (quantity_short c.args.quantity c.requires.quantity_value).radius))
+overflow_cast-quantity c = (radius_short (quantity_short c.args.quantity c.requires.quantity_value)).fits
 
-pub put_line-requires : goal.put_line-requires
+-- the start's line
+start_added : {quantity : Quantity} → QuantityShort quantity → (before : List ℕ) {after : List ℕ} → after ≡ before ++ start_text quantity.start → Added before (start_text quantity.start) most_start after
+start_added {quantity} short before e = record { added = e; short = length_start quantity.start short.start }
+
+pub line-requires : goal.line-requires
 unfolding bytes printed
-put_line-requires c =
+line-requires c =
     let short = quantity_short c.args.quantity c.requires.quantity_value in
-    let asked = line_asked_lem "radius" c.args.quantity.radius (omega (arith, short.radius)) (room_rest c.put_start-started.ensures.put (room short c.requires.most_quantity_in_bounds)) in
-    record { number_bound = asked.0; room = asked.1 }
+    (omega arith, line_asked "radius" (start_added short _ c.put_start.ensures.put) (radius_short short) (omega (arith, c.requires.most_quantity_in_bounds)))
 
 pub returns : goal.returns
-unfolding bytes printed
+unfolding bytes printed quantity_text
 returns c =
     let short = quantity_short c.args.quantity c.requires.quantity_value in
-    let put = quantity_put short c.put_start-started.ensures.put c.put_line.ensures in
-    record { put = put; bounded = omega (arith, put.counted, length_quantity c.args.quantity short) }
+    let lines = line_added "radius" (start_added short _ c.put_start.ensures.put) (radius_short short) c.line.ensures in
+    record { put = lines.added; bounded = length_added lines }

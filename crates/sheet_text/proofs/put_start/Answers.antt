@@ -1,58 +1,41 @@
 -- `sheet_text::put_start` meets its contract: the line of a number, or that of no reading.
-use Prim.Native.Nat.{ℕ, ◌+◌, ◌^◌, ◌≤◌, ◌<◌}
-use mathlib.Core.Path.{◌≡◌, sym}
-use mathlib.Core.List.{List}
+use mathlib.Core.Path.{◌≡◌}
 use native.Mathlib.Omega.{arith}
-use lib.IntN.{ℤ, nat_abs}
-use lib.ListN.{length}
-use Rattle.rounding.proofs.Machine.{sfits_abs}
+use lib.IntN.{ℤ}
+use Rattle.std.proofs.Common.{Option, Some, None}
 use Rattle.ranges.specs.Range.{bytes}
 use Rattle.model.specs.Sheet.{passes, start_verdict}
 use Rattle.model.specs.Answer.{printed}
 use Rattle.stored.specs.Conversion.{start_text}
-use Rattle.model.specs.declared.Start.{Start}
-use Rattle.model.specs.declared.Start.TheVariants.{Reading, Missing}
-use Rattle.printing.specs.Pieces.{Put, Room}
-use Rattle.printing.specs.SheetLength.{most_start}
-use Rattle.printing.proofs.LineLength.{whole_asked, whole_put}
-use Rattle.printing.proofs.Pieces.{put_same, room_same}
-use Rattle.printing.proofs.SheetLength.{start_short, length_start}
+use Rattle.printing.proofs.LineLength.{Short, short_whole, none_added, line_asked, line_added, length_added}
+use Rattle.printing.proofs.SheetLength.{start_short}
 use Rattle.sheet_text.proofs.put_start.Goals as goal
 
-started : {start : Start} {z : ℤ} → start ≡ Reading z → start_text start ≡ printed "start" z
+read : {start : Option ℤ} {z : ℤ} → start ≡ Some z → start_text start ≡ printed "start" z
 unfolding start_text
-started e = rw e
+read e = rw e
 
-not_read : {start : Start} → start ≡ Missing → start_text start ≡ bytes "start=none\n"
+not_read : {start : Option ℤ} → start ≡ None → start_text start ≡ bytes "start=none\n"
 unfolding start_text
 not_read e = rw e
 
-value_short : {start : Start} {z : ℤ} → start ≡ Reading z → start_verdict start ≡ passes → nat_abs z < 10 ^ 9
-value_short {z = z} e passed = start_short z (rw e at passed)
+-- of nine digits and a sign
+value_short : {start : Option ℤ} {z : ℤ} → start ≡ Some z → start_verdict start ≡ passes → Short "start" 10 z
+value_short {z = z} e passed =
+    let short = start_short z (rw e at passed) in
+    short_whole "start" 9 (omega arith) short (omega (arith, short))
 
--- there is room for its line
-room : (start : Start) {text : List ℕ} {at : ℕ} → start_verdict start ≡ passes → at + most_start ≤ length text → Room text at (start_text start)
-room start passed h = record { fits = omega (arith, h, length_start start passed) }
-
--- the place that follows it
-bounded : (start : Start) {a b : List ℕ} {at next : ℕ} → start_verdict start ≡ passes → Put a at (start_text start) next b → next ≤ at + most_start
-bounded start passed p = omega (arith, p.counted, length_start start passed)
-
-pub put_line-requires : goal.put_line-requires
+pub line-requires : goal.line-requires
 unfolding bytes printed
-put_line-requires c =
-    let short = value_short c.in-Reading.is c.requires.start_value in
-    let asked = whole_asked "start" {z = c.in-Reading.value} (sfits_abs (omega (arith, short))) (omega (arith, short)) (room_same (started c.in-Reading.is) (room c.args.start c.requires.start_value c.requires.most_start_in_bounds)) in
-    record { number_bound = asked.0; room = asked.1 }
+line-requires c =
+    (omega arith, line_asked "start" (none_added _) (value_short c.in-Some.is c.requires.start_value) (omega (arith, c.requires.most_start_in_bounds)))
 
-pub returns-in-Reading : goal.returns-in-Reading
+pub returns-in-Some : goal.returns-in-Some
 unfolding bytes printed
-returns-in-Reading c =
-    let put = put_same (sym (started c.in-Reading.is)) (whole_put "start" (sfits_abs (omega (arith, value_short c.in-Reading.is c.requires.start_value))) c.put_line.ensures) in
-    record { put = put; bounded = bounded c.args.start c.requires.start_value put }
+returns-in-Some c =
+    let line = line_added "start" (none_added _) (value_short c.in-Some.is c.requires.start_value) c.line.ensures in
+    record { put = rw (read c.in-Some.is) line.added; bounded = length_added line }
 
-pub returns-in-Missing : goal.returns-in-Missing
+pub returns-in-None-clause-put : goal.returns-in-None-clause-put
 unfolding bytes
-returns-in-Missing c =
-    let put = put_same (sym (not_read c.in-Missing.is)) c.put_bytes.ensures in
-    record { put = put; bounded = bounded c.args.start c.requires.start_value put }
+returns-in-None-clause-put c = rw (not_read c.in-None.is) c.bytes.ensures

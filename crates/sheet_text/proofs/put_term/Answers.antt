@@ -1,87 +1,59 @@
 -- `sheet_text::put_term` meets its contract: its four lines, one after the other.
-use Prim.Native.Nat.{ℕ, ◌+◌, ◌≤◌}
-use mathlib.Core.List.{List, ◌++◌}
 use native.Mathlib.Omega.{arith}
-use lib.IntN.{ℤ, pos}
-use lib.ListN.{length}
-use mir.Syntax.{w64}
-use mir.Val.{SFits, to_z, of_z}
-use Rattle.rounding.proofs.Machine.{sfits_abs}
+use lib.IntN.{pos}
 use Rattle.ranges.specs.Range.{bytes}
 use Rattle.model.specs.Answer.{printed}
-use Rattle.stored.specs.Conversion.{term_text}
 use Rattle.model.specs.declared.Term.{Term}
-use Rattle.printing.specs.Pieces.{Put, Room}
-use Rattle.printing.specs.SheetLength.{most_term, TermShort}
-use Rattle.printing.proofs.LineLength.{line_asked_lem, line_put, whole_asked, whole_put}
-use Rattle.printing.proofs.Pieces.{put_then, room_first, room_rest}
-use Rattle.printing.proofs.SheetLength.{length_term}
+use Rattle.stored.specs.Conversion.{term_text}
+use Rattle.printing.specs.SheetLength.{TermShort}
+use Rattle.printing.proofs.LineLength.{Short, short_natural, short_whole, none_added, line_asked, line_added, length_added}
 use Rattle.sheet_text.proofs.put_term.Goals as goal
 
--- the lines up to each
-abbrev target_line : Term → List ℕ
-target_line term = printed "to" (pos term.to)
+-- the numbers of the four lines
+module _ {term : Term} (short : TermShort term) where
+  target_short : Short "to" 1 (pos term.to)
+  target_short = short_natural "to" 1 (omega arith) (omega (arith, short.target)) (omega (arith, short.target))
 
-abbrev coef_lines : Term → List ℕ
-coef_lines term = target_line term ++ printed "coef" term.coef
+  coef_short : Short "coef" 10 term.coef
+  coef_short = short_whole "coef" 9 (omega arith) (omega (arith, short.coefficient)) (omega (arith, short.coefficient))
 
-abbrev first_lines : Term → List ℕ
-first_lines term = coef_lines term ++ printed "first" (pos term.first)
+  first_short : Short "first" 1 (pos term.first)
+  first_short = short_natural "first" 1 (omega arith) (omega (arith, short.first)) (omega (arith, short.first))
 
--- the bits that the code hands over
-abbrev bits : ℤ → ℤ
-bits z = to_z w64 (of_z w64 z)
+  second_short : Short "second" 1 (pos term.second)
+  second_short = short_natural "second" 1 (omega arith) (omega (arith, short.second)) (omega (arith, short.second))
 
--- the coefficient fits
-coef_fits : {term : Term} → TermShort term → SFits w64 term.coef
-coef_fits short = sfits_abs (omega (arith, short.coefficient))
-
-module _ {term : Term} (short : TermShort term) {text : List ℕ} {at : ℕ} where
-  -- there is room for the lines
-  room : at + most_term ≤ length text → Room text at (first_lines term ++ printed "second" (pos term.second))
-  unfolding term_text
-  room h = record { fits = omega (arith, h, length_term term short) }
-
-  -- the lines that are put, of numbers of which the code hands over the bits
-  target_put : {a : List ℕ} {i : ℕ} → Put text at (printed "to" (bits (pos term.to))) i a → Put text at (target_line term) i a
-  target_put p = line_put "to" (omega (arith, short.target)) p
-
-  coef_put : {a b : List ℕ} {i j : ℕ} → Put text at (target_line term) i a → Put a i (printed "coef" (bits term.coef)) j b → Put text at (coef_lines term) j b
-  coef_put p q = put_then p (whole_put "coef" (coef_fits short) q)
-
-  first_put : {a b : List ℕ} {i j : ℕ} → Put text at (coef_lines term) i a → Put a i (printed "first" (bits (pos term.first))) j b → Put text at (first_lines term) j b
-  first_put p q = put_then p (line_put "first" (omega (arith, short.first)) q)
-
-  term_put : {a b : List ℕ} {i j : ℕ} → Put text at (first_lines term) i a → Put a i (printed "second" (bits (pos term.second))) j b → Put text at (term_text term) j b
-  unfolding term_text
-  term_put p q = put_then p (line_put "second" (omega (arith, short.second)) q)
-
-pub put_line-targeted-requires : goal.put_line-targeted-requires
+pub line-requires : goal.line-requires
 unfolding bytes printed
-put_line-targeted-requires c =
-    let asked = line_asked_lem "to" c.args.term.to (omega (arith, c.requires.term_short.target)) (room_first _ (room_first _ (room_first _ (room c.requires.term_short c.requires.most_term_in_bounds)))) in
-    record { number_bound = asked.0; room = asked.1 }
+line-requires c =
+    (omega arith, line_asked "to" (none_added _) (target_short c.requires.term_short) (omega (arith, c.requires.most_term_in_bounds)))
 
-pub put_line-weighed-requires : goal.put_line-weighed-requires
+pub line-requires-2 : goal.line-requires-2
 unfolding bytes printed
-put_line-weighed-requires c =
-    let asked = whole_asked "coef" (coef_fits c.requires.term_short) (omega (arith, c.requires.term_short.coefficient)) (room_rest (target_put c.requires.term_short c.put_line-targeted.ensures) (room_first _ (room_first _ (room c.requires.term_short c.requires.most_term_in_bounds)))) in
-    record { number_bound = asked.0; room = asked.1 }
+line-requires-2 c =
+    let target = line_added "to" (none_added _) (target_short c.requires.term_short) c.line.ensures in
+    (omega arith, line_asked "coef" target (coef_short c.requires.term_short) (omega (arith, c.requires.most_term_in_bounds)))
 
-pub put_line-factored-requires : goal.put_line-factored-requires
+pub line-requires-3 : goal.line-requires-3
 unfolding bytes printed
-put_line-factored-requires c =
-    let asked = line_asked_lem "first" c.args.term.first (omega (arith, c.requires.term_short.first)) (room_rest (coef_put c.requires.term_short (target_put c.requires.term_short c.put_line-targeted.ensures) c.put_line-weighed.ensures) (room_first _ (room c.requires.term_short c.requires.most_term_in_bounds))) in
-    record { number_bound = asked.0; room = asked.1 }
+line-requires-3 c =
+    let target = line_added "to" (none_added _) (target_short c.requires.term_short) c.line.ensures in
+    let coef = line_added "coef" target (coef_short c.requires.term_short) c.line-2.ensures in
+    (omega arith, line_asked "first" coef (first_short c.requires.term_short) (omega (arith, c.requires.most_term_in_bounds)))
 
-pub put_line-requires : goal.put_line-requires
+pub line-requires-4 : goal.line-requires-4
 unfolding bytes printed
-put_line-requires c =
-    let asked = line_asked_lem "second" c.args.term.second (omega (arith, c.requires.term_short.second)) (room_rest (first_put c.requires.term_short (coef_put c.requires.term_short (target_put c.requires.term_short c.put_line-targeted.ensures) c.put_line-weighed.ensures) c.put_line-factored.ensures) (room c.requires.term_short c.requires.most_term_in_bounds)) in
-    record { number_bound = asked.0; room = asked.1 }
+line-requires-4 c =
+    let target = line_added "to" (none_added _) (target_short c.requires.term_short) c.line.ensures in
+    let coef = line_added "coef" target (coef_short c.requires.term_short) c.line-2.ensures in
+    let first = line_added "first" coef (first_short c.requires.term_short) c.line-3.ensures in
+    (omega arith, line_asked "second" first (second_short c.requires.term_short) (omega (arith, c.requires.most_term_in_bounds)))
 
 pub returns : goal.returns
-unfolding bytes printed
+unfolding bytes printed term_text
 returns c =
-    let put = term_put c.requires.term_short (first_put c.requires.term_short (coef_put c.requires.term_short (target_put c.requires.term_short c.put_line-targeted.ensures) c.put_line-weighed.ensures) c.put_line-factored.ensures) c.put_line.ensures in
-    record { put = put; bounded = omega (arith, put.counted, length_term c.args.term c.requires.term_short) }
+    let target = line_added "to" (none_added _) (target_short c.requires.term_short) c.line.ensures in
+    let coef = line_added "coef" target (coef_short c.requires.term_short) c.line-2.ensures in
+    let first = line_added "first" coef (first_short c.requires.term_short) c.line-3.ensures in
+    let second = line_added "second" first (second_short c.requires.term_short) c.line-4.ensures in
+    record { put = second.added; bounded = length_added second }

@@ -1,51 +1,35 @@
 -- `terms::drop_zeros` meets its contract. The loop forms the list of those that are not 0.
 use Prim.Native.Nat.{ℕ, ◌+◌, ◌≤◌, ◌<◌}
-use mathlib.Core.Bool.{Bool, true, false}
-use mathlib.Core.List.{List, [], ◌∷◌, ◌++◌, append-nil}
-use mathlib.Core.Logic.{◌⊎◌, inl, inr}
-use mathlib.Core.Path.{◌≡◌, sym, ap, ◌∙◌}
+use mathlib.Core.Bool.{true, false}
+use mathlib.Core.List.{List, append-nil}
+use mathlib.Core.Path.{◌≡◌, sym, ◌∙◌}
 use native.Mathlib.Omega.{arith}
 use lib.ListN.{length, get_or, set, take}
-use lib.Seq.{take_all}
-use Rattle.model.specs.Sheet.{most_terms, no_term, listed}
+use Rattle.model.specs.Sheet.{most_terms, no_term}
 use Rattle.model.specs.LikeTerms.{nonzero, filter}
 use Rattle.model.specs.declared.Term.{Term}
 use Rattle.laws.proofs.Gathering.Filters.{filter_behind}
-use Rattle.laws.proofs.Bounds.CountedTerms.{length_listed, get_or_listed}
-use Rattle.terms.proofs.Built.{taken_more, built_none, built_past, built_more}
-use Rattle.terms.proofs.drop_zeros.Invariants.{Left}
+use Rattle.terms.proofs.Built.{Built, taken_more, built_none, built_more}
 use Rattle.terms.proofs.drop_zeros.Goals.{then-nonzero, else-nonzero}
 use Rattle.terms.proofs.drop_zeros.Goals as goal
 
 -- one term more: it stands behind them, or drops out
-module _ (terms : List Term) (j count : ℕ) (list : List Term) (term : Term) (there : j < length terms) (few : length terms ≤ most_terms) (kept : count ≤ j) (is : term ≡ get_or terms j no_term) (left : Left terms j count list) where
-  more : take (j + 1) terms ≡ take j terms ++ (term ∷ [])
-  more = taken_more terms j term there is
+module _ (terms : List Term) (j count : ℕ) (list : List Term) (there : j < length terms) (few : length terms ≤ most_terms) (kept : count ≤ j) (left : Built (filter nonzero (take j terms)) count list) where
+  stands : nonzero (get_or terms j no_term) ≡ true → Built (filter nonzero (take (j + 1) terms)) (count + 1) (set list count (get_or terms j no_term))
+  stands e = rw (taken_more terms j there, filter_behind nonzero true (get_or terms j no_term) e) (built_more (omega arith) left _ (omega arith))
 
-  stands : nonzero term ≡ true → Left terms (j + 1) (count + 1) (set list count term)
-  stands e = rw (more, filter_behind nonzero true term e) (built_more (omega arith) left term (omega arith))
+  drops : nonzero (get_or terms j no_term) ≡ false → Built (filter nonzero (take (j + 1) terms)) count list
+  drops e = rw (taken_more terms j there, filter_behind nonzero false (get_or terms j no_term) e, append-nil) left
 
-  drops : nonzero term ≡ false → Left terms (j + 1) count (set list count term)
-  drops e = rw (more, filter_behind nonzero false term e, append-nil) (built_past (omega arith) left term)
-
-  turned : (answer : Bool) (count' : ℕ) → answer ≡ nonzero term → ((answer ≡ true) × (count' ≡ count + 1)) ⊎ ((answer ≡ false) × (count' ≡ count)) → Left terms (j + 1) count' (set list count term) × (count' ≤ j + 1)
-  turned answer count' e (inl way) = rw way.1 (stands (sym e ∙ way.0), omega arith)
-  turned answer count' e (inr way) = rw way.1 (drops (sym e ∙ way.0), omega arith)
-
-pub loop-j-init : goal.loop-j-init
+pub loop-sum-init : goal.loop-sum-init
 unfolding filter
-loop-j-init c = (built_none _, omega arith, omega arith)
+loop-sum-init c = (built_none _, omega arith)
 
-pub loop-j-preserved : goal.loop-j-preserved
+pub loop-sum-preserved : goal.loop-sum-preserved
 unfolding no_term
-loop-j-preserved c =
-    let sums = c.args.sums in
-    let way : ((c.nonzero.result ≡ true) × (c.if-nonzero.kept ≡ c.loop-j.kept + 1)) ⊎ ((c.nonzero.result ≡ false) × (c.if-nonzero.kept ≡ c.loop-j.kept)) =
-    elim c.if-nonzero.branch [ then-nonzero w ↦ inl (w.if-nonzero.true, w.kept-is) | else-nonzero w ↦ inr (w.if-nonzero.false, w.kept-is) ] in
-    let next = turned (listed sums) c.loop-j.j c.loop-j.kept c.loop-j.left _ (omega (arith, c.loop-j-test.true, length_listed sums)) (omega (arith, length_listed sums, c.requires)) c.loop-j.invariant.1 (sym (get_or_listed sums c.loop-j.j c.loop-j-test.true)) c.loop-j.invariant.0 c.nonzero.result c.if-nonzero.kept c.nonzero.ensures way in
-    (next.0, next.1, omega (arith, c.loop-j-test.true))
-
-pub returns : goal.returns
-returns c =
-    let sums = c.args.sums in
-    c.loop-j.invariant.0.are ∙ ap (filter nonzero) (take_all c.loop-j.j (listed sums) (omega (arith, length_listed sums, c.loop-j-test.false)))
+loop-sum-preserved c =
+    let kept = c.loop-sum.invariant in
+    elim c.if-nonzero.branch [
+      | then-nonzero w ↦ rw (w.left-is, w.kept-is) (stands c.args.sums.now c.loop-sum.sum-index c.loop-sum.kept c.loop-sum.left c.loop-sum-test.true c.requires kept.1 kept.0 (sym c.nonzero.ensures ∙ w.if-nonzero.true), omega arith)
+      | else-nonzero w ↦ rw (w.left-is, w.kept-is) (drops c.args.sums.now c.loop-sum.sum-index c.loop-sum.kept c.loop-sum.left c.loop-sum-test.true c.requires kept.1 kept.0 (sym c.nonzero.ensures ∙ w.if-nonzero.false), omega arith)
+    ]

@@ -1,56 +1,41 @@
 -- `text::put_ball` meets its contract: the value's line and the radius's.
-use Prim.Native.Nat.{ℕ, ◌+◌, ◌^◌, ◌≤◌, ◌<◌}
-use mathlib.Core.List.{List, ◌++◌}
+use Prim.Native.Nat.{◌≤◌}
 use native.Mathlib.Omega.{arith}
-use lib.IntN.{ℤ, pos, nat_abs}
-use lib.ListN.{length}
-use mir.Syntax.{w64}
-use mir.Val.{SFits, to_z, of_z}
+use lib.IntN.{pos, nat_abs}
 use Rattle.ranges.specs.Range.{bytes}
 use Rattle.model.specs.Sheet.{most}
 use Rattle.model.specs.Answer.{printed}
+use Rattle.model.specs.declared.Ball.{Ball}
 use Rattle.enclosure.specs.RowRange.{most_value}
-use Rattle.printing.specs.Pieces.{Put, Room}
-use Rattle.printing.proofs.LineLength.{natural_fits, whole_asked, whole_put, line_asked_lem, line_put}
-use Rattle.printing.proofs.Pieces.{put_then, room_first, room_rest}
-use Rattle.printing.specs.AnswerLength.{value_digits, most_ball}
-use Rattle.printing.proofs.AnswerLength.{length_ball}
+use Rattle.printing.proofs.LineLength.{Short, short_natural, short_whole, none_added, line_asked, line_added, length_added}
 use Rattle.text.proofs.put_ball.Goals as goal
 
-radius_short : {radius : ℕ} → radius ≤ most → radius < 2 ^ 32
+-- of ten digits and a sign, and of nine digits
+value_short : (ball : Ball) → nat_abs ball.value ≤ most_value → Short "value" 11 ball.value
 unfolding most
-radius_short h = omega (arith, h)
+value_short ball h = short_whole "value" 10 (omega arith) (omega (arith, h)) (omega (arith, h))
 
-module _ (value : ℤ) (radius : ℕ) (small : nat_abs value ≤ most_value) (short : radius ≤ most) where
-  length_lines : length (printed "value" value ++ printed "radius" (pos radius)) ≤ most_ball value_digits
-  unfolding most
-  length_lines = length_ball value_digits value radius (omega arith) (omega (arith, small)) short
+radius_short : (ball : Ball) → ball.radius ≤ most → Short "radius" 9 (pos ball.radius)
+unfolding most
+radius_short ball h = short_natural "radius" 9 (omega arith) (omega (arith, h)) (omega (arith, h))
 
-  -- there is room for the two lines
-  room : {text : List ℕ} {at : ℕ} → at + most_ball value_digits ≤ length text → Room text at (printed "value" value ++ printed "radius" (pos radius))
-  room h = record { fits = omega (arith, h, length_lines) }
-
-  -- which are put, of numbers of which the code hands over the bits
-  ball_put : {text a b : List ℕ} {at i j : ℕ} → SFits w64 value → Put text at (printed "value" (to_z w64 (of_z w64 value))) i a → Put a i (printed "radius" (to_z w64 (of_z w64 (pos radius)))) j b → Put text at (printed "value" value ++ printed "radius" (pos radius)) j b
-  ball_put f p q = put_then (whole_put "value" f p) (line_put "radius" (radius_short short) q)
-
-pub put_line-next-requires : goal.put_line-next-requires
-unfolding bytes printed most
-put_line-next-requires c =
-    let asked = whole_asked "value" c.ranges.value (omega (arith, c.requires.value_bound)) (room_first _ (room c.args.value c.args.radius c.requires.value_bound c.requires.radius_le_most c.requires.value_digits_in_bounds)) in
-    record { number_bound = asked.0; room = asked.1 }
-
-pub overflow_cast-radius : goal.overflow_cast-radius
-overflow_cast-radius c = natural_fits (radius_short c.requires.radius_le_most)
-
-pub put_line-requires : goal.put_line-requires
+pub line-requires : goal.line-requires
 unfolding bytes printed
-put_line-requires c =
-    let asked = line_asked_lem "radius" c.args.radius (radius_short c.requires.radius_le_most) (room_rest (whole_put "value" c.ranges.value c.put_line-next.ensures) (room c.args.value c.args.radius c.requires.value_bound c.requires.radius_le_most c.requires.value_digits_in_bounds)) in
-    record { number_bound = asked.0; room = asked.1 }
+line-requires c =
+    (omega arith, line_asked "value" (none_added _) (value_short c.args.ball c.requires.value_bound) (omega (arith, c.requires.value_digits_in_bounds)))
+
+pub overflow_cast-ball : goal.overflow_cast-ball
+overflow_cast-ball c = (radius_short c.args.ball c.requires.radius_le_most).fits
+
+pub line-requires-2 : goal.line-requires-2
+unfolding bytes printed
+line-requires-2 c =
+    let value = line_added "value" (none_added _) (value_short c.args.ball c.requires.value_bound) c.line.ensures in
+    (omega arith, line_asked "radius" value (radius_short c.args.ball c.requires.radius_le_most) (omega (arith, c.requires.value_digits_in_bounds)))
 
 pub returns : goal.returns
 unfolding bytes printed
 returns c =
-    let lines = ball_put c.args.value c.args.radius c.requires.value_bound c.requires.radius_le_most c.ranges.value c.put_line-next.ensures c.put_line.ensures in
-    record { put = lines; bounded = omega (arith, lines.counted, length_lines c.args.value c.args.radius c.requires.value_bound c.requires.radius_le_most) }
+    let value = line_added "value" (none_added _) (value_short c.args.ball c.requires.value_bound) c.line.ensures in
+    let lines = line_added "radius" value (radius_short c.args.ball c.requires.radius_le_most) c.line-2.ensures in
+    record { put = lines.added; bounded = length_added lines }

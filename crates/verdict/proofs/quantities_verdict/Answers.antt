@@ -1,29 +1,42 @@
--- `verdict::quantities_verdict` meets its contract. The invariant: every quantity passed so far passes.
-use mathlib.Core.Path.{◌≡◌, refl, sym, ap, ◌∙◌}
+-- `verdict::quantities_verdict` meets its contract. The loop passes the quantities that pass.
+use Prim.Native.Nat.{ℕ, ◌<◌}
+use mathlib.Core.List.{List}
+use mathlib.Core.Path.{◌≡◌, refl}
 use native.Mathlib.Omega.{arith}
-use Rattle.model.specs.Sheet.{verdict_outcome, quantities_verdict, in_order, no_quantity}
-use Rattle.verdict.proofs.Outcomes.{passes_as, refuses_as, one_more, first_refusal}
-use Rattle.verdict.proofs.quantities_verdict.Invariants.{each}
+use lib.ListN.{length, get_or}
+use Rattle.std.proofs.lemmas.List.{get_or_default}
+use Rattle.model.specs.Sheet.{Outcome, Verdict, verdict_outcome, in_order, quantity_verdict, quantities_verdict, no_quantity}
+use Rattle.model.specs.declared.Quantity.{Quantity}
+use Rattle.verdict.proofs.Outcomes.{one_more, refused_at}
 use Rattle.verdict.proofs.quantities_verdict.Goals as goal
 
-pub loop-i-init : goal.loop-i-init
+module _ (quantities : List Quantity) where
+  abbrev each : ℕ → Verdict
+  each i = quantity_verdict (get_or quantities i no_quantity)
+
+  -- what the array has past its end makes no difference
+  read : (i : ℕ) (none : Quantity) {o : Outcome} → i < length quantities → o ≡ verdict_outcome (quantity_verdict (get_or quantities i none)) → o ≡ verdict_outcome (each i)
+  read i none h e = rw (get_or_default quantities i none no_quantity h) at e
+
+pub loop-quantity-init : goal.loop-quantity-init
 unfolding in_order
-loop-i-init c = (omega arith, refl)
+loop-quantity-init c = refl
 
-pub returns-in-Refused : goal.returns-in-Refused
-unfolding quantities_verdict no_quantity
-returns-in-Refused c =
-    let refuses = refuses_as (each c.args.quantities c.loop-i.i) c.quantity_verdict-one.ensures c.in-Refused.is in
-    c.quantity_verdict-one.ensures ∙ ap verdict_outcome (refuses ∙ sym (first_refusal (each c.args.quantities) c.args.n c.loop-i-test.true c.loop-i.invariant.1 refuses))
+pub returns-in_err-quantity_verdict : goal.returns-in_err-quantity_verdict
+unfolding quantities_verdict
+returns-in_err-quantity_verdict c =
+    let i = c.loop-quantity.quantity-index in
+    let refused = read c.args.quantities.now i _ c.loop-quantity-test.true c.in_err-quantity_verdict.ensures in
+    refused_at (each c.args.quantities.now) (length c.args.quantities.now) c.loop-quantity-test.true c.loop-quantity.invariant refused c.from_residual.ensures.1
 
-pub loop-i-preserved : goal.loop-i-preserved
-unfolding no_quantity
-loop-i-preserved c =
-    (omega arith, one_more (each c.args.quantities) c.loop-i.invariant.1 ∙ passes_as (each c.args.quantities c.loop-i.i) c.quantity_verdict-one.ensures c.in_default.is)
+pub loop-quantity-preserved : goal.loop-quantity-preserved
+loop-quantity-preserved c =
+    let i = c.loop-quantity.quantity-index in
+    let passed = read c.args.quantities.now i _ c.loop-quantity-test.true c.in_ok-quantity_verdict.ensures in
+    one_more (each c.args.quantities.now) i c.loop-quantity.invariant passed
 
 pub returns : goal.returns
 unfolding verdict_outcome quantities_verdict
-returns c = rw (all, c.loop-i.invariant.1)
-  where
-    all : c.args.n ≡ c.loop-i.i
-    all = omega arith
+returns c =
+    let all : length c.args.quantities.now ≡ c.loop-quantity.quantity-index = omega (arith, c.loop-quantity-test.false) in
+    rw (all, c.loop-quantity.invariant)

@@ -1,61 +1,43 @@
 -- `clear_search::questions::query_within` meets its contract: each answer is that of its question, and the first no decides.
-use Prim.Native.Nat.{ℕ, ◌+◌}
-use mathlib.Core.Bool.{Bool, true, false}
-use mathlib.Core.Path.{◌≡◌, sym, ◌∙◌}
-use native.Mathlib.Nat.{zero-add}
+use Prim.Native.Nat.{ℕ, ◌≤◌}
+use mathlib.Core.Bool.{Bool, ◌&&◌}
+use mathlib.Core.Path.{◌≡◌, refl}
 use borrow.Author.Rules.{rules}
-use lib.IntN.{pos}
-use lib.ListN.{get_or}
+use lib.ListN.{length}
 use mir.Syntax.{w64}
 use Rattle.rounding.proofs.Machine.{of_number}
 use Rattle.ranges.specs.Range.{every}
 use Rattle.model.specs.Sheet.{most, within, from◌to◌, ±◌}
-use Rattle.model.specs.declared.Limits.{Limits}
 use Rattle.clear_rule.specs.Clearance.{weight, weight_limits, depth_limits, run_limits, query_within}
 use Rattle.clear_rule.specs.declared.Query.{Query}
+use Rattle.clear_search.proofs.Asked.{front_asked, next_decides, no_decides}
+use Rattle.clear_search.proofs.questions.query_within.Goals.{then-all_within, else-all_within, then-within, else-within}
 use Rattle.clear_search.proofs.questions.query_within.Goals as goal
 
--- the weights, from place 0
-weights_asked : (n : ℕ) (query : Query) (limits : Limits) → every n (λ i. within limits (get_or query.weights (0 + i) (pos 0))) ≡ every n (λ i. within limits (weight query i))
-unfolding weight
-weights_asked n query limits = λ t. every n (λ i. within limits (get_or query.weights (zero-add i t) (pos 0)))
+-- the questions
+abbrev weights_within : ℕ → Query → Bool
+weights_within n query = every n (λ i. within weight_limits (weight query i))
 
--- the answers so far, and the next
-module _ (n : ℕ) (query : Query) {weights : Bool} (a : weights ≡ every n (λ i. within weight_limits (weight query i))) where
-  no_weights : weights ≡ false → false ≡ query_within n query
-  unfolding query_within
-  no_weights answer = rw (sym a ∙ answer)
+abbrev base_within : Query → Bool
+base_within query = within depth_limits query.base
 
-  module _ (weights-passed : weights ≡ true) {base : Bool} (b : base ≡ within depth_limits query.base) where
-    no_base : base ≡ false → false ≡ query_within n query
-    unfolding query_within
-    no_base answer = rw (sym a ∙ weights-passed, sym b ∙ answer)
+abbrev need_within : Query → Bool
+need_within query = within depth_limits query.need
 
-    module _ (base-passed : base ≡ true) {need : Bool} (d : need ≡ within depth_limits query.need) where
-      no_need : need ≡ false → false ≡ query_within n query
-      unfolding query_within
-      no_need answer = rw (sym a ∙ weights-passed, sym b ∙ base-passed, sym d ∙ answer)
+pub returns-then-within-2 : goal.returns-then-within-2
+unfolding weight_limits depth_limits ±◌ most run_limits from◌to◌ weight query_within
+returns-then-within-2 c =
+    let room : c.args.n ≤ length c.args.query.now.weights = search rules in
+    let weights : c.all_within.result ≡ weights_within c.args.n c.args.query.now = front_asked weight_limits c.args.n c.args.query.now.weights room c.all_within.ensures refl in
+    let base : c.if-all_within.value ≡ (weights_within c.args.n c.args.query.now && base_within c.args.query.now) = elim c.if-all_within.branch [ then-all_within w ↦ next_decides weights w.if-all_within.true (of_number {w = w64} (within depth_limits) (search rules) w.within.ensures) w.value-is | else-all_within w ↦ no_decides _ weights w.if-all_within.false w.value-is ] in
+    let need : c.if-within.value ≡ (weights_within c.args.n c.args.query.now && base_within c.args.query.now && need_within c.args.query.now) = elim c.if-within.branch [ then-within w ↦ next_decides base w.if-within.true (of_number {w = w64} (within depth_limits) (search rules) w.within-then-within.ensures) w.value-is | else-within w ↦ no_decides _ base w.if-within.false w.value-is ] in
+    next_decides need c.if-within-2.true c.natural_within.ensures refl
 
-      run_decides : need ≡ true → {run : Bool} → run ≡ within run_limits (pos query.run) → run ≡ query_within n query
-      unfolding query_within
-      run_decides need-passed e = rw (sym a ∙ weights-passed, sym b ∙ base-passed, sym d ∙ need-passed) e
-
-pub returns-then-not-all_within : goal.returns-then-not-all_within
-unfolding weight_limits depth_limits ±◌ most
-returns-then-not-all_within c =
-    no_weights c.args.n c.args.query (c.all_within.ensures ∙ weights_asked c.args.n c.args.query weight_limits) c.if-not-all_within.true
-
-pub returns-then-not-within : goal.returns-then-not-within
-unfolding weight_limits depth_limits ±◌ most
-returns-then-not-within c =
-    no_base c.args.n c.args.query (c.all_within.ensures ∙ weights_asked c.args.n c.args.query weight_limits) c.if-not-all_within.false (of_number {w = w64} (within depth_limits) (search rules) c.within.ensures) c.if-not-within.true
-
-pub returns-then-not-within-2 : goal.returns-then-not-within-2
-unfolding weight_limits depth_limits ±◌ most
-returns-then-not-within-2 c =
-    no_need c.args.n c.args.query (c.all_within.ensures ∙ weights_asked c.args.n c.args.query weight_limits) c.if-not-all_within.false (of_number {w = w64} (within depth_limits) (search rules) c.within.ensures) c.if-not-within.false (of_number {w = w64} (within depth_limits) (search rules) c.within-2.ensures) c.if-not-within-2.true
-
-pub returns : goal.returns
-unfolding weight_limits depth_limits ±◌ most run_limits from◌to◌
-returns c =
-    run_decides c.args.n c.args.query (c.all_within.ensures ∙ weights_asked c.args.n c.args.query weight_limits) c.if-not-all_within.false (of_number {w = w64} (within depth_limits) (search rules) c.within.ensures) c.if-not-within.false (of_number {w = w64} (within depth_limits) (search rules) c.within-2.ensures) c.if-not-within-2.false c.natural_within.ensures
+pub returns-else-within-2 : goal.returns-else-within-2
+unfolding weight_limits depth_limits ±◌ most run_limits from◌to◌ weight query_within
+returns-else-within-2 c =
+    let room : c.args.n ≤ length c.args.query.now.weights = search rules in
+    let weights : c.all_within.result ≡ weights_within c.args.n c.args.query.now = front_asked weight_limits c.args.n c.args.query.now.weights room c.all_within.ensures refl in
+    let base : c.if-all_within.value ≡ (weights_within c.args.n c.args.query.now && base_within c.args.query.now) = elim c.if-all_within.branch [ then-all_within w ↦ next_decides weights w.if-all_within.true (of_number {w = w64} (within depth_limits) (search rules) w.within.ensures) w.value-is | else-all_within w ↦ no_decides _ weights w.if-all_within.false w.value-is ] in
+    let need : c.if-within.value ≡ (weights_within c.args.n c.args.query.now && base_within c.args.query.now && need_within c.args.query.now) = elim c.if-within.branch [ then-within w ↦ next_decides base w.if-within.true (of_number {w = w64} (within depth_limits) (search rules) w.within-then-within.ensures) w.value-is | else-within w ↦ no_decides _ base w.if-within.false w.value-is ] in
+    no_decides _ need c.if-within-2.false refl

@@ -1,12 +1,8 @@
--- What the loops of `assured` keep.
-use Prim.Native.Nat.{◌-◌, ◌≤◌}
+-- What the loop of `assured` keeps: the base, and what the quantities passed count.
 use mathlib.Core.Path.{◌≡◌}
-use Rattle.model.specs.Rows.{row_in}
+use Rattle.rows.specs.View.{row_of}
 use Rattle.clear_rule.proofs.SumsFit.{assured_to}
 use Rattle.clear_search.proofs.search.assured.Given as goal
 
 abbrev pub invariant-loop-i : goal.invariant-loop-i
-invariant-loop-i l = (l.sum ≡ assured_to l.query (row_in l.n l.rows l.row) l.i) × (l.i ≤ l.n)
-
-abbrev pub decreases-loop-i : goal.decreases-loop-i
-decreases-loop-i l = l.n - l.i
+invariant-loop-i l = l.sum ≡ assured_to l.query (row_of l.row) l.i

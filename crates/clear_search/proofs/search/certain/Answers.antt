@@ -11,6 +11,7 @@ use mir.Facts.{to_z-of_z}
 use Rattle.rounding.proofs.Machine.{below_fits, bits_are}
 use Rattle.model.specs.Sheet.{scale}
 use Rattle.model.specs.Rows.{row_in}
+use Rattle.rows.specs.View.{places_of}
 use Rattle.clear_rule.specs.Asked.{Weighable}
 use Rattle.clear_rule.specs.Clearance.{assured, certain}
 use Rattle.clear_rule.specs.declared.Query.{Query}
@@ -31,9 +32,9 @@ module _ (n j : ℕ) (buffer : List ℤ) (query : Query) (w : Weighable n j buff
 pub overflow_mul-need : goal.overflow_mul-need
 unfolding scale
 overflow_mul-need c =
-    need_held c.args.n c.args.row c.args.rows.now c.args.query c.requires (search rules)
+    need_held c.args.row.n 0 (places_of c.args.row) c.args.query.now c.requires (search rules)
 
 pub returns : goal.returns
 unfolding scale
 returns c =
-    enough c.args.n c.args.row c.args.rows.now c.args.query c.requires (search rules) (record { sfits = c.assured.type_inv }) c.assured.ensures
+    enough c.args.row.n 0 (places_of c.args.row) c.args.query.now c.requires (search rules) (record { sfits = c.assured.type_inv }) c.assured.ensures

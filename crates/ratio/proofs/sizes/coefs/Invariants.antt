@@ -1,10 +1,10 @@
--- What the loops of `coefs` keep.
-use Prim.Native.Nat.{ℕ, ◌-◌, ◌≤◌}
+-- What the loop of `coefs` keeps: the sum over the terms passed.
+use Prim.Native.Nat.{ℕ}
 use mathlib.Core.Path.{◌≡◌}
 use mathlib.Core.List.{List}
 use lib.ListN.{get_or}
 use Rattle.ranges.specs.Range as range
-use Rattle.model.specs.Sheet.{no_term, listed}
+use Rattle.model.specs.Sheet.{no_term}
 use Rattle.model.specs.Step as rule
 use Rattle.model.specs.declared.Term.{Term}
 use Rattle.ratio.proofs.sizes.coefs.Given as goal
@@ -14,8 +14,5 @@ unfoldable pub partial : ℕ → ℕ → List Term → ℕ → ℕ
 partial target count terms j =
     range.sum j (λ j. rule.brings target (get_or terms j no_term) (rule.coef_of count (get_or terms j no_term)))
 
-abbrev pub invariant-loop-j : goal.invariant-loop-j
-invariant-loop-j l = (l.sum ≡ partial l.target l.count (listed l.terms) l.j) × (l.j ≤ l.terms.count)
-
-abbrev pub decreases-loop-j : goal.decreases-loop-j
-decreases-loop-j l = l.terms.count - l.j
+abbrev pub invariant-loop-term : goal.invariant-loop-term
+invariant-loop-term l = l.sum ≡ partial l.target l.count l.terms l.term-index

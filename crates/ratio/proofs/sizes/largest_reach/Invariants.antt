@@ -1,12 +1,11 @@
--- What the loops of `largest_reach` keep.
-use Prim.Native.Nat.{◌-◌, ◌≤◌}
+-- What the loop of `largest_reach` keeps: the largest reach of the balls passed.
+use Prim.Native.Nat.{max}
 use mathlib.Core.Path.{◌≡◌}
-use Rattle.model.specs.Step.{greatest}
-use Rattle.model.specs.Rows.{balls_in}
+use lib.ListN.{get_or}
+use Rattle.ranges.specs.Range as range
+use Rattle.model.specs.Sheet.{scale}
+use Rattle.model.specs.Step.{reach, no_ball}
 use Rattle.ratio.proofs.sizes.largest_reach.Given as goal
 
-abbrev pub invariant-loop-i : goal.invariant-loop-i
-invariant-loop-i l = (l.largest ≡ greatest (balls_in l.i l.values l.radii)) × (l.i ≤ l.n)
-
-abbrev pub decreases-loop-i : goal.decreases-loop-i
-decreases-loop-i l = l.n - l.i
+abbrev pub invariant-loop-ball : goal.invariant-loop-ball
+invariant-loop-ball l = l.largest ≡ max scale (range.largest l.ball-index (λ i. reach (get_or l.balls i no_ball)))
