@@ -131,6 +131,11 @@ class Before(Repository):
         self.assertEqual(started.returncode, 130, said)
         self.assertIn("passage: interrupted", said)
         self.assertNotIn("Traceback", said)
+        # What built has heard of it at the same time, and takes its folder away when it has.
+        for _ in range(100):
+            if not list((self.folder / "target" / "built").iterdir()):
+                break
+            time.sleep(0.05)
         self.assertEqual(list((self.folder / "target" / "built").iterdir()), [])
 
     def test_an_older_python_is_told_in_one_line(self):
