@@ -74,10 +74,10 @@ extern "C" {
  * may be more of them. MINOR is the last change request that the planner meets, which may have changed the rows of a sheet;
  * PATCH counts the changes since.
  */
-#define PLANNER_VERSION "1.6.6"
+#define PLANNER_VERSION "1.6.7"
 #define PLANNER_VERSION_MAJOR 1
 #define PLANNER_VERSION_MINOR 6
-#define PLANNER_VERSION_PATCH 6
+#define PLANNER_VERSION_PATCH 7
 
 /*
  * The sizes, the most and the scale are constants of 64 bits with a sign, as the numbers in the rows are, so a product with an

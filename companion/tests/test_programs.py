@@ -121,8 +121,10 @@ class Before(Repository):
         stand_in(self.folder / "bin", "rt", '#!/bin/sh\n[ "$1" != version ] || exit 0\n: >../../started\nsleep 20\n')
         command = [self.folder / "companion" / "passage", "show", "tide.toml"]
         path = f"{self.folder / 'bin'}:{os.environ['PATH']}"
+        # Who runs the tests in the background may have had the signal ignored, and so would all that is started from here.
         started = subprocess.Popen(
-            command, cwd=self.folder, env=os.environ | {"PATH": path}, stderr=subprocess.PIPE, start_new_session=True
+            command, cwd=self.folder, env=os.environ | {"PATH": path}, stderr=subprocess.PIPE, start_new_session=True,
+            preexec_fn=lambda: signal.signal(signal.SIGINT, signal.SIG_DFL),
         )
         while not (self.folder / "started").exists():
             time.sleep(0.05)

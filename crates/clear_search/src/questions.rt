@@ -48,11 +48,17 @@ const RADIUS: Limits = Limits {
     high: MOST_PLACE,
 };
 
-// Whether each number lies in its limits.
+// Whether each number lies in its limits. Stays: a loop, since by `all` the longest search took a third more time; and over places, of
+// which the edit code_first_number_not_asked leaves out the first.
 fn all_within(numbers: &[i64], limits: Limits) -> bool
     ensures { result ≡ list_all (sheet.within limits) numbers.now }
 {
-    numbers.iter().all(|number| within(limits, *number))
+    for i in 0..numbers.len() {
+        if !within(limits, numbers[i]) {
+            return false;
+        }
+    }
+    true
 }
 
 // Whether the weights of n quantities, the base, the need and the run are in their ranges.

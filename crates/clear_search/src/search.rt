@@ -15,8 +15,11 @@ fn end_at(row: Row, i: usize, weight: i64) -> i64
     requires { i < row.n }
     ensures { result ≡ clearance.end_for weight (get_or (row_of row.entry).spans i no_span) }
 {
-    let span = row.span(i);
-    if weight < 0 { span.high } else { span.low }
+    if weight < 0 {
+        row.span(i).high
+    } else {
+        row.span(i).low
+    }
 }
 
 // base × s + the sum of weight × the end that it takes.

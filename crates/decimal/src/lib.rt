@@ -169,17 +169,15 @@ fn put_digits(text: &mut [u8], number: u32)
 
 // Puts bytes at a place of a text and hands back the place that follows them. What lies past the text's end is counted and
 // not stored, as in C's snprintf. Stays: what C lends is told in full length by these places (the clauses `printed` of `planner_answer` and
-// `planner_convert`).
+// `planner_convert`); and byte after byte, since between two buffers that C lends `copy_from_slice` is a call of `memmove`, which the
+// archive for C does not need otherwise.
 pub fn put_front(text: &mut [u8], at: usize, bytes: &[u8]) -> usize
     requires { at + length bytes.now < 2 ^ 64 }
     ensures { Put text.old at bytes.now result text.new }
 {
-    let end = at + bytes.len();
-    if end <= text.len() {
-        text[at..end].copy_from_slice(bytes);
-    } else if at < text.len() {
-        let room = text.len() - at;
-        text[at..].copy_from_slice(&bytes[..room]);
+    let room = text.len().saturating_sub(at);
+    for i in 0..bytes.len().min(room) {
+        text[at + i] = bytes[i];
     }
-    end
+    at + bytes.len()
 }

@@ -7,13 +7,14 @@ ghost use Rattle.input.specs.Counted.{counted, readable, turn_of};
 use std::io;
 use std::io::Read;
 
-// What a read came to, by what it answered, where it had room for so many bytes: so many more, none at the end of the input, or
-// its failure.
-#[tactic(auto, unfolding(crate::specs::Counted::turn_of))]
-fn turn_of(got: io::Result<usize>, room: usize) -> io::Result<usize>
+// What a read came to, by what it answered, where it had room for so many bytes: so many more, or that the input has ended; or its
+// failure.
+#[tactic(auto, using(crate::proofs::Turns::end_is, crate::proofs::Turns::more_is), unfolding(crate::specs::Counted::turn_of))]
+fn turn_of(got: io::Result<usize>, room: usize) -> io::Result<Option<usize>>
     ensures { result ≡ turn_of got room }
 {
-    got.map(|count| count.min(room))
+    let more = got?.min(room);
+    if more == 0 { Ok(None) } else { Ok(Some(more)) }
 }
 
 // Reads a program's standard input, `from`, into `bytes` until it ends or `bytes` is full. Which bytes these are, and what each
@@ -28,10 +29,9 @@ pub fn read_input<R: Read>(from: &mut R, bytes: &mut [u8]) -> io::Result<usize>
     let mut count = 0;
     while count < bytes.len() {
         let got = from.read(&mut bytes[count..]);
-        let more = turn_of(got, bytes.len() - count)?;
-        if more == 0 {
+        let Some(more) = turn_of(got, bytes.len() - count)? else {
             break;
-        }
+        };
         count += more;
     }
     Ok(count)

@@ -72,6 +72,10 @@ length_rows n number (entry_first {x = row} w none) (entry_first range none) las
 length_rows n number (entry_first {x = row} w (entry_first {x = next} {xs = rows} v wide)) (entry_first range ranges) (earlier p passed) h =
     omega (arith, ap length (rows_append number (row ∷ []) (next ∷ rows)), length-append (rows_text number (row ∷ [])) (rows_text (number + 1) (next ∷ rows)), length_row passed_digits number row (omega arith) (omega arith) range (λ i k. omega (arith, p i k)), ap (λ (m : ℕ). most_row passed_digits m) w.balls, length_rows n (number + 1) (entry_first v wide) ranges passed (omega arith), suc-mul (suc (length rows)) (most_row passed_digits n))
 
+-- so many rows of n quantities, whichever is the last
+pub rows_brief : (n count : ℕ) → n ≤ most_quantities → count ≤ most_steps → count * most_row value_digits n ≤ most_steps * most_row value_digits most_quantities
+rows_brief n count h k = omega (arith, mul-le-mul_right (most_row value_digits n) k)
+
 -- ---- the whole answer
 
 pub length_run : (n : ℕ) (run : Run) → n ≤ most_quantities → length run.rows ≤ most_steps → Wide n run.rows → Each Printable run.rows → AllButLast (λ row. Passed row.balls) run.rows → refused_step run.outcome ≤ most_steps → length (run_text run) ≤ most_answer

@@ -1,12 +1,17 @@
 -- A whole number in decimal: its sign, its last two digits, and how many there are.
+use Prim.Native.Char.{code}
 use Prim.Native.Nat.{ℕ, zero, suc, ◌^◌, ◌/◌, ◌%◌, ◌≤◌, ◌<◌}
 use mathlib.Core.Path.{◌≡◌, refl}
-use mathlib.Core.List.{◌++◌, append_assoc}
+use mathlib.Core.Bool.{true, false}
+use mathlib.Core.List.{[], ◌∷◌, ◌++◌, append_assoc}
 use mathlib.Core.Logic.{⊎_elim}
 use native.Mathlib.Nat.{le_trans, pow-suc, pow-le-pow_right}
 use native.Mathlib.Omega.{arith}
 use lib.IntN.{ℤ, pos, negsuc, nat_abs}
 use lib.ListN.{length, length-append}
+use lib.Signed.{lt_z}
+use borrow.Author.Tests.{ltb-true}
+use Rattle.rounding.proofs.Machine.{not_negative}
 use Rattle.model.specs.Answer.{decimal}
 use Rattle.printing.specs.Pieces.{pair, sign}
 use Rattle.ranges.proofs.Ranges.{before_or_past}
@@ -18,6 +23,13 @@ pub decimal_signed : (z : ℤ) → decimal z ≡ sign z ++ decimal (pos (nat_abs
 unfolding decimal
 decimal_signed (pos n) = refl
 decimal_signed (negsuc n) = refl
+
+pub sign_minus : (z : ℤ) → lt_z z (pos 0) ≡ true → sign z ≡ code "-" ∷ []
+sign_minus (pos n) t = absurd (omega (arith, ltb-true n 0 t))
+sign_minus (negsuc n) t = refl
+
+pub sign_none : (z : ℤ) → lt_z z (pos 0) ≡ false → sign z ≡ []
+sign_none z t = rw (not_negative z t)
 
 -- ---- the last two digits
 

@@ -13,7 +13,8 @@ use Rattle.rounding.proofs.Machine.{sfits_abs}
 use Rattle.ranges.specs.Range.{bytes}
 use Rattle.model.specs.Answer.{decimal, printed}
 use Rattle.laws.proofs.Text.DecimalText.{length_below, length_signed, length_printed}
-use Rattle.printing.specs.Pieces.{most_line}
+use Rattle.printing.specs.Pieces.{Put, most_line}
+use Rattle.printing.proofs.Pieces.{put_same}
 
 -- ---- its length
 
@@ -42,6 +43,16 @@ pub record Short (key : String) (digits : ℕ) (z : ℤ) : Type 0 where
 
 pub natural_fits : {n : ℕ} → n < 2 ^ 32 → SFits w64 (pos n)
 natural_fits h = sfits_abs (omega arith)
+
+pub of_bits : {n : ℕ} → n < 2 ^ 32 → bits (pos n) ≡ pos n
+of_bits h = to_z-of_z (natural_fits h)
+
+-- so what is put of a number's bits is put of the number
+pub whole_put : (key : String) {a b : List ℕ} {i j : ℕ} {z : ℤ} → SFits w64 z → Put a i (printed key (bits z)) j b → Put a i (printed key z) j b
+whole_put key f p = put_same (ap (printed key) (to_z-of_z f)) p
+
+pub line_put : (key : String) {a b : List ℕ} {i j n : ℕ} → n < 2 ^ 32 → Put a i (printed key (bits (pos n))) j b → Put a i (printed key (pos n)) j b
+line_put key h p = whole_put key (natural_fits h) p
 
 pub short_natural : (key : String) (k : ℕ) {n : ℕ} → 0 < k → n < 10 ^ k → n < 2 ^ 32 → Short key k (pos n)
 short_natural key k {n} l h small = record { fits = natural_fits small; small = small; line = length_natural key k n l h }

@@ -6,9 +6,9 @@ use mathlib.Core.Logic.{⊎_elim}
 use native.Mathlib.Nat.{zero-add}
 use native.Mathlib.Numerals.{add-one}
 use native.Mathlib.Omega.{arith}
-use lib.ListN.{length, take, drop, length-append, take-append-drop, drop_of_length-le}
+use lib.ListN.{length, set, take, drop, length-append, take-append-drop, drop_of_length-le}
 use borrow.Rule.Slice.PartMut.{put_mid}
-use lib.Seq.{sets, set_out, sets-eq, length-sets, take_all, take-length, length-take-le, drop-length, take-append_seam, drop-append_seam}
+use lib.Seq.{sets, set_out, set_comm, sets-eq, length-sets, take_all, take-length, length-take-le, drop-length, take-append_seam, drop-append_seam}
 use Rattle.std.proofs.lemmas.Slice.{put_mid-paste}
 use Rattle.ranges.proofs.Ranges.{before_or_past}
 use Rattle.ranges.proofs.Stores.{sets_append}
@@ -24,6 +24,10 @@ put_then {a} {b} {c} {x} {y} {i} {j} {k} p q =
       stored = rw (q.stored, p.stored, p.counted, sets_append a i x y);
     }
 
+-- a buffer keeps its length
+pub put_keeps_length : {a b x : List ℕ} {i j : ℕ} → Put a i x j b → length b ≡ length a
+put_keeps_length {a} {x = x} {i = i} p = rw p.stored (length-sets a i x)
+
 pub put_same : {a b x y : List ℕ} {i j : ℕ} → x ≡ y → Put a i x j b → Put a i y j b
 put_same e p = rw e at p
 
@@ -34,13 +38,13 @@ sets_past l i [] h = refl
 sets_past l i (a ∷ x) h = ap (λ (k : List ℕ). sets k (suc i) x) (set_out l i a h) ∙ sets_past l (suc i) x (omega arith)
 
 -- the front that fits, and nothing of the rest
-sets_front : (l : List ℕ) (i k : ℕ) (x : List ℕ) → i + k ≡ length l → k ≤ length x → sets l i x ≡ sets l i (take k x)
+sets_front : (l : List ℕ) (i k : ℕ) (x : List ℕ) → length l ≤ i + k → k ≤ length x → sets l i x ≡ sets l i (take k x)
 sets_front l i k x e h =
     ap (λ (y : List ℕ). sets l i y) (sym (take-append-drop k x))
     ∙ sets_append l i (take k x) (drop k x)
     ∙ sets_past (sets l i (take k x)) (i + length (take k x)) (drop k x) (rw (length-sets, length-take-le k x h) (omega arith))
 
-pub put_front : {a b x : List ℕ} {i j : ℕ} (k : ℕ) → i + k ≡ length a → k ≤ length x → Put a i (take k x) j b → Put a i x (i + length x) b
+pub put_front : {a b x : List ℕ} {i j : ℕ} (k : ℕ) → length a ≤ i + k → k ≤ length x → Put a i (take k x) j b → Put a i x (i + length x) b
 put_front {a} {x = x} {i = i} k e h p = record { counted = refl; stored = p.stored ∙ sym (sets_front a i k x e h) }
 
 -- a part of the text that holds the bytes now, as `copy_from_slice` leaves it
@@ -90,8 +94,33 @@ sets_held l x = ⊎_elim fitting longer (before_or_past (length x) (length l))
         ∙ sets_fitting l (take (length l) x) (rw (length-take-le (length l) x h) (omega arith))
         ∙ rw (length-take-le (length l) x h, drop-length l, drop_of_length-le l h)
 
+-- what was put is what stands there
+pub put_taken : {a b x : List ℕ} {j : ℕ} → Put a 0 x j b → length x ≤ length a → take j b ≡ x
+put_taken {a} {x = x} p h = rw (p.counted, p.stored, sets_fitting a x h, zero-add) (take-append_seam x (drop (length x) a))
+
 pub put_printed : {before after text : List ℕ} {count : ℕ} → Put before 0 text count after → Printed before text count after
 put_printed {before} {text = text} p = record { counted = omega (arith, p.counted); held = p.stored ∙ sets_held before text }
+
+-- ---- a text that is put before another
+
+set_before : (l : List ℕ) (i j a : ℕ) (y : List ℕ) → i < j → set (sets l j y) i a ≡ sets (set l i a) j y
+set_before l i j a [] h = refl
+set_before l i j a (b ∷ y) h =
+    set_before (set l j b) i (suc j) a y (omega arith)
+    ∙ ap (λ (k : List ℕ). sets k (suc j) y) (set_comm l j i b a (λ e. omega arith))
+
+sets_before : (l : List ℕ) (i j : ℕ) (x y : List ℕ) → i + length x ≤ j → sets (sets l j y) i x ≡ sets (sets l i x) j y
+sets_before l i j [] y h = refl
+sets_before l i j (a ∷ x) y h =
+    ap (λ (k : List ℕ). sets k (suc i) x) (set_before l i j a y (omega arith)) ∙ sets_before (set l i a) (suc i) j x y (omega arith)
+
+-- `y` is put first, and then `x` up to where it begins
+pub put_before : {a b c x y : List ℕ} {i j k m : ℕ} → j ≡ i + length x → Put a j y k b → Put b i x m c → Put a i (x ++ y) k c
+put_before {a} {x = x} {y = y} {i = i} {j = j} e p q =
+    record {
+      counted = omega (arith, e, p.counted, length-append x y);
+      stored = q.stored ∙ rw (p.stored, sets_before a i j x y (omega (arith, e)), e, sets_append a i x y);
+    }
 
 -- ---- a text that grows by a piece
 

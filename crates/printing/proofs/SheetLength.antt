@@ -2,11 +2,11 @@
 use Rattle.std.specs.Prelude.{Option, Some, None}
 use Prim.Native.Nat.{ℕ, ◌^◌, ◌≤◌, ◌<◌}
 use mathlib.Core.Path.{◌≡◌, refl}
-use mathlib.Core.List.{flatten}
+use mathlib.Core.List.{◌++◌, flatten}
 use native.Mathlib.Nat.{le_trans}
 use native.Mathlib.Omega.{arith}
 use lib.IntN.{ℤ, pos, neg_ℤ, nat_abs}
-use lib.ListN.{length, get_or, replicate}
+use lib.ListN.{length, get_or, replicate, length-append}
 use Rattle.ranges.specs.Range.{tabulate, bytes}
 use Rattle.model.specs.Sheet.{scale, most, most_quantities, stored_steps, most_terms, most_coef, passes, ask, ◌then◌, in_order, from◌to◌, ±◌, within, n_limits, steps_limits, step_limits, step_within, tail_limits, tol_limits, start_limits, radius_limits, terms_limits, to_limits, coef_limits, first_limits, second_limits, in_range, step_verdict, head_verdict, start_verdict, quantity_verdict, quantities_verdict, term_verdict, terms_verdict, no_quantity, no_term, sheet_verdict_to}
 use Rattle.model.specs.Answer.{digit, decimal_by, decimal, printed}
@@ -17,8 +17,8 @@ use Rattle.model.specs.declared.Term.{Term}
 use Rattle.model.specs.declared.Sheet.{Sheet}
 use Rattle.laws.proofs.Text.Verdicts.{both_pass, in_range_lem, signed_magnitude, step_in_range, TermInRange, head_in_range, few_quantities, sheet_in_range}
 use Rattle.laws.proofs.Bounds.SheetBounds.{second_at_most}
-use Rattle.printing.proofs.LineLength.{length_whole}
-use Rattle.printing.specs.SheetLength.{most_start, most_sheet, TermShort}
+use Rattle.printing.proofs.LineLength.{length_natural, length_whole}
+use Rattle.printing.specs.SheetLength.{most_head, most_start, most_quantity, most_term, most_sheet, TermShort}
 
 -- ---- the lines above the quantities
 
@@ -41,6 +41,16 @@ head_short head passed =
       tol = omega (arith, (in_range_lem _ ranges.tol).1);
     }
 
+pub length_head : (head : Head) → HeadShort head → length (head_text head) ≤ most_head
+unfolding head_text bytes
+length_head head short =
+    let n = printed "n" (pos head.n) in
+    let steps = printed "steps" (pos head.steps) in
+    let step = printed "step" head.step in
+    let tail = printed "tail" (pos head.tail) in
+    omega
+    (arith, length-append (n ++ steps ++ step ++ tail) (printed "tol" (pos head.tol)), length-append (n ++ steps ++ step) tail, length-append (n ++ steps) step, length-append n steps, length_natural "n" 1 head.n (omega arith) short.n, length_natural "steps" 3 head.steps (omega arith) short.steps, length_whole "step" 8 head.step (omega arith) short.step, length_natural "tail" 8 head.tail (omega arith) short.tail, length_natural "tol" 9 head.tol (omega arith) short.tol)
+
 -- ---- a quantity
 
 pub start_short : (z : ℤ) → start_verdict (Some z) ≡ passes → nat_abs z < 10 ^ 9
@@ -61,6 +71,23 @@ unfolding quantity_verdict radius_limits most
 quantity_short quantity passed =
     let both = both_pass (start_verdict quantity.start) _ passed in
     record { start = both.0; radius = omega (arith, (in_range_lem quantity.radius both.1).1) }
+
+pub length_quantity : (quantity : Quantity) → QuantityShort quantity → length (quantity_text quantity) ≤ most_quantity
+unfolding quantity_text bytes
+length_quantity quantity short =
+    omega
+    (arith, length-append (start_text quantity.start) (printed "radius" (pos quantity.radius)), length_start quantity.start short.start, length_natural "radius" 9 quantity.radius (omega arith) short.radius)
+
+-- ---- a term
+
+pub length_term : (term : Term) → TermShort term → length (term_text term) ≤ most_term
+unfolding term_text bytes
+length_term term short =
+    let target = printed "to" (pos term.to) in
+    let coef = printed "coef" term.coef in
+    let first = printed "first" (pos term.first) in
+    omega
+    (arith, length-append (target ++ coef ++ first) (printed "second" (pos term.second)), length-append (target ++ coef) first, length-append target coef, length_natural "to" 1 term.to (omega arith) (omega (arith, short.target)), length_whole "coef" 9 term.coef (omega arith) (omega (arith, short.coefficient)), length_natural "first" 1 term.first (omega arith) (omega (arith, short.first)), length_natural "second" 1 term.second (omega arith) (omega (arith, short.second)))
 
 -- ---- a sheet
 

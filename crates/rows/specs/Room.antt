@@ -14,9 +14,10 @@ part_number Radii = radii_part
 part_number Lows = lows_part
 part_number Highs = highs_part
 
--- the places of row j can be counted in 64 bits, the rows being of n quantities
-pub record HasPlaces (n j : ℕ) : Type 0 where
+-- the places of row j can be counted in 64 bits, the rows being of n quantities; i may be n, the place behind a part
+pub record HasPlace (n j i : ℕ) : Type 0 where
   pub few : n ≤ most_quantities
+  pub quantity : i ≤ n
   pub counted : degree_place n j + width n < 2 ^ 64
 
 -- it has all places of row j, the rows being of n quantities

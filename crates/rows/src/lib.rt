@@ -5,7 +5,7 @@ ghost use Rattle.std.specs.Prelude.{◌≡◌, ◌≤◌, ◌+◌, length};
 ghost use Rattle.std.proofs.lemmas.List.Edits.{sets};
 ghost use Rattle.model.specs.Sheet.{most_quantities};
 ghost use Rattle.model.specs.Rows as layout;
-ghost use Rattle.rows.specs.Room.{part_number, HasPlaces, Storable};
+ghost use Rattle.rows.specs.Room.{part_number, HasPlace, Storable};
 
 use model::{Balls, MOST_QUANTITIES, MOST_STEPS, Spans};
 
@@ -28,12 +28,12 @@ pub fn width(n: usize) -> usize
     PARTS * n + 1
 }
 
-// The first place of a part of a row.
-fn part_place(n: usize, row: usize, part: Part) -> usize
-    requires { HasPlaces n row }
-    ensures { result ≡ layout.part_place n row (part_number part) 0 }
+// The place of quantity i in a part of a row.
+pub fn part_place(n: usize, row: usize, part: Part, i: usize) -> usize
+    requires { HasPlace n row i }
+    ensures { result ≡ layout.part_place n row (part_number part) i }
 {
-    row * width(n) + 1 + part.number() * n
+    row * width(n) + 1 + part.number() * n + i
 }
 
 // Puts the numbers of a part from place `at` on.
@@ -54,8 +54,8 @@ pub fn put_row(rows: &mut [i64], n: usize, row: usize, degree: usize, balls: &Ba
     let lows = spans.map(|span| span.low);
     let highs = spans.map(|span| span.high);
     rows[row * width(n)] = degree as i64;
-    put_part(rows, part_place(n, row, Part::Values), &values[..n]);
-    put_part(rows, part_place(n, row, Part::Radii), &radii[..n]);
-    put_part(rows, part_place(n, row, Part::Lows), &lows[..n]);
-    put_part(rows, part_place(n, row, Part::Highs), &highs[..n]);
+    put_part(rows, part_place(n, row, Part::Values, 0), &values[..n]);
+    put_part(rows, part_place(n, row, Part::Radii, 0), &radii[..n]);
+    put_part(rows, part_place(n, row, Part::Lows, 0), &lows[..n]);
+    put_part(rows, part_place(n, row, Part::Highs, 0), &highs[..n]);
 }

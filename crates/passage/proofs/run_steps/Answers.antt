@@ -35,7 +35,7 @@ one_row_more {n = n} row underway left e stored =
     rw stored (moved _ underway left e (record { balls = length_balls n row.balls; spans = length_spans n row.spans }))
 
 pub sums_of-sums-requires : goal.sums_of-sums-requires
-sums_of-sums-requires c = record { n_le_most_quantities = c.requires.each.room; summable = rw (c.listed-terms.ensures (few_listed c.args.terms.now c.requires.each.bounds.summable)) c.requires.each.bounds.summable }
+sums_of-sums-requires c = record { n_le_most_quantities = omega (arith, c.requires.each.room); summable = rw (c.listed-terms.ensures (few_listed c.args.terms.now c.requires.each.bounds.summable)) c.requires.each.bounds.summable }
 
 pub loop-done-init : goal.loop-done-init
 loop-done-init c = (underway_at_start _ _ _ _, blank_usable _ _ c.new-table.ensures)

@@ -11,10 +11,10 @@ use Rattle.clear_search.proofs.search.end_at.Goals as goal
 
 pub returns-then-weight-lt0 : goal.returns-then-weight-lt0
 returns-then-weight-lt0 c =
-    let fits : SFits w64 c.span-span.result.high = search rules in
-    to_z-of_z fits ∙ ap (λ (span : Span). span.high) c.span-span.ensures ∙ sym (high_taken c.args.weight _ (sign_test c.ranges.weight c.if-weight-lt0.true))
+    let fits : SFits w64 c.span.result.high = search rules in
+    to_z-of_z fits ∙ ap (λ (span : Span). span.high) c.span.ensures ∙ sym (high_taken c.args.weight _ (sign_test c.ranges.weight c.if-weight-lt0.true))
 
 pub returns-else-weight-lt0 : goal.returns-else-weight-lt0
 returns-else-weight-lt0 c =
-    let fits : SFits w64 c.span-span.result.low = search rules in
-    to_z-of_z fits ∙ ap (λ (span : Span). span.low) c.span-span.ensures ∙ sym (low_taken c.args.weight _ (sign_test c.ranges.weight c.if-weight-lt0.false))
+    let fits : SFits w64 c.span-else-weight-lt0.result.low = search rules in
+    to_z-of_z fits ∙ ap (λ (span : Span). span.low) c.span-else-weight-lt0.ensures ∙ sym (low_taken c.args.weight _ (sign_test c.ranges.weight c.if-weight-lt0.false))
