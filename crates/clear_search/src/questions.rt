@@ -48,8 +48,8 @@ const RADIUS: Limits = Limits {
     high: MOST_PLACE,
 };
 
-// Whether each number lies in its limits. Stays: a loop, since by `all` the longest search took a third more time; and over places, of
-// which the edit code_first_number_not_asked leaves out the first.
+// Whether each number lies in its limits. Stays: a loop, since by `all` a search took more time (docs/DESIGN-PASS.md has it); and over
+// places, of which the edit code_first_number_not_asked leaves out the first.
 fn all_within(numbers: &[i64], limits: Limits) -> bool
     ensures { result ≡ list_all (sheet.within limits) numbers.now }
 {

@@ -5,7 +5,7 @@ use mathlib.Core.Path.{◌≡◌, refl, sym, ap, ◌∙◌}
 use native.Mathlib.Numerals.{add-one}
 use native.Mathlib.Omega.{arith}
 use lib.ListN.{length, get_or, set, take, replicate, length-set, length-replicate}
-use lib.Seq.{get_or-take, length-take-le, take-suc, take-set-lt, take-suc-set}
+use lib.Seq.{get_or-take, length-take-le, take-suc, take-set-le, take-set-lt, take-suc-set}
 use Rattle.ranges.specs.Range.{tabulate}
 use Rattle.model.specs.Sheet.{most_terms, no_term, listed}
 use Rattle.model.specs.declared.Term.{Term}
@@ -47,6 +47,14 @@ module _ {terms : List Term} {count : ℕ} {list : List Term} (few : count ≤ m
       record {
         are = front_is count (set list i t) (omega (arith, built.long, length-set list i t)) ∙ take-set-lt count list i t h ∙ ap (λ (l : List Term). set l i t) taken;
         long = length-set list i t ∙ built.long;
+      }
+
+  -- what is put past them is not one of them
+  pub built_past : (t : Term) → Built terms count (set list count t)
+  built_past t =
+      record {
+        are = front_is count (set list count t) (omega (arith, built.long, length-set list count t)) ∙ take-set-le count list count t (omega arith) ∙ taken;
+        long = length-set list count t ∙ built.long;
       }
 
   pub built_more : (t : Term) → count < most_terms → Built (terms ++ (t ∷ [])) (count + 1) (set list count t)
